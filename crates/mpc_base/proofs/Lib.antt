@@ -1,0 +1,2 @@
+pub mod FailCounts
+pub mod StoreLemmas
