@@ -1,0 +1,11 @@
+//! The tree of a program, with types and numbered variables, and what a task that runs it asks.
+//!
+//! The meaning stands in specs/Meaning.antt: `next` tells, for a program and the answers that a task
+//! has had so far, which call the task asks next and at which line.
+#![tactic(auto)]
+
+mod trees;
+mod variables;
+
+pub use trees::{Expr, Function, Program, Stmt};
+pub use variables::Globals;
