@@ -1,0 +1,102 @@
+-- One step of one task.
+use Rattle.std.specs.Prelude.{◌≡◌, ℕ, ℤ, pos, ◌+◌, Bool, true, false, ◌||◌, if◌then◌else◌, List, [], ◌∷◌, ◌++◌, length, nat_le, slice_get, slice_set, Option, Some, None, is_some}
+use Rattle.std.specs.List.{list_all}
+use Rattle.mpc_base.specs.declared.values.Word.{Word}
+use Rattle.mpc_base.specs.declared.values.Word.TheVariants.{Int}
+use Rattle.mpc_base.specs.declared.calls.Call.{Call}
+use Rattle.mpc_base.specs.declared.calls.Call.TheVariants.{Load, Store, Print, Finish}
+use Rattle.mpc_base.specs.declared.calls.Answer.{Answer}
+use Rattle.mpc_base.specs.declared.calls.Answer.TheVariants.{Gives}
+use Rattle.mpc_base.specs.declared.calls.Fault.{Fault}
+use Rattle.mpc_base.specs.declared.calls.Fault.TheVariants.{OutputFull}
+use Rattle.mpc_base.specs.declared.calls.Out.{Out}
+use Rattle.mpc_base.specs.declared.calls.Out.TheVariants.{Did, Broke}
+use Rattle.mpc_base.specs.declared.journals.Entry.{Entry}
+use Rattle.mpc_base.specs.CallTable.{call_number}
+use Rattle.c_tree.specs.Asking.{Next, Asks, Over, Misfit}
+use Rattle.c_tree.specs.Meaning.{next}
+use Rattle.memory_model.specs.Memory.{Memory}
+use Rattle.memory_model.specs.Access.{Access, Answers, Breaks, load, store}
+use Rattle.run_model.specs.declared.records.Setup.{Setup}
+use Rattle.run_model.specs.declared.tasks.TaskState.{TaskState}
+use Rattle.run_model.specs.declared.tasks.Last.{Last}
+use Rattle.run_model.specs.World.{World, owner_of}
+
+-- What a call does: an answer, with the memory and the task behind it, or a fault.
+pub data Act : Type 0 where
+  Does : (answer : Answer) (memory : Memory) (task : TaskState) → Act
+  Fails : (fault : Fault) → Act
+
+-- an access changes memory alone
+abbrev pub accessed : TaskState → Access → Act
+accessed state (Answers answer memory) = Does answer memory state
+accessed state (Breaks fault) = Fails fault
+
+-- the most bytes of output that a task may print
+abbrev pub output_limit : ℕ
+output_limit = 1048576
+
+-- A print puts its bytes behind the task's output and gives their number, or is OutputFull.
+abbrev pub print : Memory → TaskState → List ℕ → Act
+print m state text =
+    if nat_le (length state.output + length text) output_limit
+    then Does (Gives (Int (pos (length text)))) m (record state { output = state.output ++ text })
+    else Fails OutputFull
+
+-- what a call of a task does
+abbrev pub act : ℕ → Memory → TaskState → Call → Act
+act task m state (Load at) = accessed state (load (owner_of task) m at)
+act task m state (Store at word) = accessed state (store (owner_of task) m at word)
+act task m state (Print text) = print m state text
+act task m state (Finish code) = Does (Gives (Int code)) m (record state { exit = Some code })
+
+-- What a step makes: nothing, or an entry of the journal and the world behind it.
+pub data Step : Type 0 where
+  Stays : Step
+  Makes : (entry : Entry) (world : World) → Step
+
+abbrev pub entry_of : ℕ → Call → ℕ → Out → Entry
+entry_of task call line out = record { task = task; line = line; call = call_number call; out = out }
+
+abbrev pub answers_at : Option (List Answer) → List Answer
+answers_at None = []
+answers_at (Some answers) = answers
+
+-- the answers that a task has had
+abbrev pub answers_of : World → ℕ → List Answer
+answers_of w task = answers_at (slice_get w.answers task)
+
+-- the entry and the world behind a call of a task
+abbrev pub acted : World → ℕ → Call → ℕ → Act → Step
+acted w task call line (Does answer memory state) =
+    Makes (entry_of task call line (Did answer)) (record {
+      memory = memory;
+      tasks = slice_set w.tasks task state;
+      answers = slice_set w.answers task (answers_of w task ++ answer ∷ []);
+      last = w.last;
+    })
+acted w task call line (Fails fault) =
+    Makes (entry_of task call line (Broke fault)) (record w { last = Some (record { task = task; fault = fault; line = line }) })
+
+abbrev pub has_finished : TaskState → Bool
+has_finished state = is_some state.exit
+
+-- a run has ended by a fault, or when all its tasks have finished
+abbrev pub has_ended : World → Bool
+has_ended w = is_some w.last || list_all has_finished w.tasks
+
+abbrev pub go_next : World → ℕ → TaskState → Next → Step
+go_next w task state (Asks call line) = acted w task call line (act task w.memory state call)
+go_next w task state Over = Stays
+go_next w task state Misfit = Stays
+
+-- a task that has not finished asks what its program asks behind the task's own answers
+abbrev pub go_task : Setup → World → ℕ → Option TaskState → Step
+go_task setup w task None = Stays
+go_task setup w task (Some state) =
+    if has_finished state then Stays else go_next w task state (next setup.program (answers_of w task))
+
+-- One step of a task. It makes no entry where the run has ended, where there is no such task, or where the task
+-- has finished.
+abbrev pub go : Setup → World → ℕ → Step
+go setup w task = if has_ended w then Stays else go_task setup w task (slice_get w.tasks task)

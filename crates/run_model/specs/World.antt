@@ -1,0 +1,52 @@
+-- The world of a run: what separate processes, which share nothing but their declared variables, hold at one moment.
+use Rattle.std.specs.Prelude.{ℕ, zero, suc, ◌+◌, List, [], ◌∷◌, replicate, Option, Some, None}
+use Rattle.std.specs.FinMap as map
+use Rattle.mpc_base.specs.declared.values.Obj.{Obj}
+use Rattle.mpc_base.specs.declared.values.Obj.TheVariants.{Glob}
+use Rattle.mpc_base.specs.declared.owners.Owner.{Owner}
+use Rattle.mpc_base.specs.declared.owners.Owner.TheVariants.{Task}
+use Rattle.mpc_base.specs.declared.owners.StaticVar.{StaticVar}
+use Rattle.mpc_base.specs.declared.calls.Answer.{Answer}
+use Rattle.memory_model.specs.Memory.{Memory, with_words}
+use Rattle.run_model.specs.declared.records.Setup.{Setup}
+use Rattle.run_model.specs.declared.tasks.TaskState.{TaskState}
+use Rattle.run_model.specs.declared.tasks.Last.{Last}
+
+-- The memory of all tasks, what is kept of each task, the answers that each has had, and the fault that ended
+-- the run, if one did. Tasks stand by their numbers.
+pub record World : Type 0 where
+  pub memory : Memory
+  pub tasks : List TaskState
+  pub answers : List (List Answer)
+  pub last : Option Last
+
+-- how many tasks a run has
+abbrev pub tasks_of : Setup → ℕ
+tasks_of setup = 1
+
+-- whose copy of an object a task touches: its own, since no variable is shared yet
+abbrev pub owner_of : ℕ → Obj → Owner
+owner_of task obj = Task task
+
+-- the memory with the static variables from a number on in an owner's copy, each with its first words
+abbrev pub with_variables : Owner → ℕ → List StaticVar → Memory → Memory
+with_variables owner number [] m = m
+with_variables owner number (variable ∷ more) m =
+    with_variables owner (number + 1) more (with_words m owner (Glob number) variable.first)
+
+-- the memory at the start, for the tasks below a number: each has a copy of each static variable
+abbrev pub first_memory : List StaticVar → ℕ → Memory
+first_memory variables zero = map.empty
+first_memory variables (suc task) = with_variables (Task task) 0 variables (first_memory variables task)
+
+abbrev pub first_task : TaskState
+first_task = record { output = []; exit = None }
+
+-- the world in which a run starts
+abbrev pub start : Setup → World
+start setup = record {
+  memory = first_memory setup.program.variables (tasks_of setup);
+  tasks = replicate (tasks_of setup) first_task;
+  answers = replicate (tasks_of setup) [];
+  last = None;
+}
