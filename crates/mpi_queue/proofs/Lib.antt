@@ -1,0 +1,5 @@
+mod Counted
+pub mod Partners
+pub mod Histories
+pub mod Settled
+pub mod Fitting
