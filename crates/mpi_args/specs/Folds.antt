@@ -25,7 +25,7 @@ abbrev pub differs : Bool → Bool → Bool
 differs a b = if a then not b else b
 
 -- The sum and the product are wrapped in two's complement of the datatype. The other operations do not look at
--- it: they are those of 64 bits, and keep numbers of the datatype in it.
+-- it: they are those of 64 bits.
 abbrev pub fold_of : Op → Datatype → ℤ → ℤ → ℤ
 fold_of Max kind a b = int_max a b
 fold_of Min kind a b = int_min a b

@@ -51,7 +51,7 @@ waiting-marked n k (e ∷ es) =
 waiting_from-with_partner : (all : List Made) (n k : ℕ) → waiting_from 1 (with_partner all n k) ≡ without (waiting_from 1 all) n
 waiting_from-with_partner all n k = ap (λ es. map shown (filter waits es)) (enumerate_from-marked n k 1 all) ∙ waiting-marked n k (numbered all)
 
-length-with_partner : (all : List Made) (n k : ℕ) → length (with_partner all n k) ≡ length all
+pub length-with_partner : (all : List Made) (n k : ℕ) → length (with_partner all n k) ≡ length all
 length-with_partner all n k = length-map (numbered all) (marked n k) ∙ length-enumerate_from 1 all
 
 -- lists of one posting more
@@ -78,5 +78,6 @@ made_with-matching_of all p None =
 
 -- the queue after a posting
 pub posted-matching_of : (all : List Made) (p : Posting) → posted (matching_of all) p ≡ matching_of (with_posting all p)
+unfolding posted with_posting
 posted-matching_of all p =
     ap (posted_with (matching_of all) p) (partner-matching_of all p) ∙ made_with-matching_of all p (partner_of all p)

@@ -19,16 +19,19 @@ partner-front : (p : Posting) (e : ℕ × Made) (rest : List (ℕ × Made)) (fou
     → c ≡ is_match p e.1.posting
     → partner (map shown rest) p ≡ option_map (λ f. f.0) found
     → partner (map shown (cond b (e ∷ rest) rest)) p ≡ option_map (λ f. f.0) (cond (b && is_match p e.1.posting) (Some e) found)
+unfolding partner
 partner-front p e rest found false c is h = h
 partner-front p e rest found true true is h = rw (← is) refl
 partner-front p e rest found true false is h = rw (← is) h
 
 partner-shown : (p : Posting) (es : List (ℕ × Made)) → partner (map shown (filter waits es)) p ≡ option_map (λ f. f.0) (find (λ e. is_open_to p e.1) es)
+unfolding partner
 partner-shown p [] = refl
 partner-shown p (e ∷ es) = partner-front p e (filter waits es) (find (λ f. is_open_to p f.1) es) (waits e) (is_match p e.1.posting) refl (partner-shown p es)
 
 -- the queue finds the partner
 pub partner-matching_of : (all : List Made) (p : Posting) → partner (matching_of all).waiting p ≡ partner_of all p
+unfolding partner_of
 partner-matching_of all p = partner-shown p (numbered all)
 
 -- where an element is found: its place, and that none before passes
@@ -95,12 +98,13 @@ partner-found all p n (Some e) at got =
     let place : n - 1 ≡ f.place = omega (arith, f.number, same) in
     record {
       counted = omega (arith, f.number, same);
-      «open» = rw (place, f.there) f.passes;
+      meets = rw (place, f.there) f.passes;
       first = λ k m h got. f.first k m (omega (arith, f.number, same)) got;
     }
 
 -- the partner is unmatched, of the other kind and fits, and none before it does
 pub partner_of-IsPartner : (all : List Made) (p : Posting) (n : ℕ) → partner_of all p ≡ Some n → IsPartner all p n
+unfolding partner_of
 partner_of-IsPartner all p n got = partner-found all p n (find (λ f. is_open_to p f.1) (numbered all)) (found_at (is_open_to p) 1 all) got
 
 none-found : (found : Option (ℕ × Made)) → option_map {T = ℕ × Made} {U = ℕ} (λ f. f.0) found ≡ None → found ≡ None
@@ -109,4 +113,5 @@ none-found (Some e) got = cc
 
 -- no partner: no posting is open to this one
 pub partner_of-None : (all : List Made) (p : Posting) → partner_of all p ≡ None → (k : ℕ) (m : Made) → slice_get all k ≡ Some m → is_open_to p m ≡ false
+unfolding partner_of
 partner_of-None all p got = none_at (is_open_to p) 1 all (none-found (find (λ f. is_open_to p f.1) (numbered all)) got)

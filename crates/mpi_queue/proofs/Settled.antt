@@ -58,4 +58,5 @@ pub IsSettled-none : IsSettled []
 IsSettled-none i j a b got_a = let no : ⊥ = cc in absurd no
 
 pub IsSettled-with_posting : (all : List Made) (p : Posting) → IsSettled all → IsSettled (with_posting all p)
+unfolding with_posting
 IsSettled-with_posting all p settled = settled_with all p (partner_of all p) refl settled

@@ -21,7 +21,7 @@ abbrev pub is_open_to : Posting → Made → Bool
 is_open_to p m = is_none m.met && is_match p m.posting
 
 -- the number of a posting's partner: of the first such posting, by number
-abbrev pub partner_of : List Made → Posting → Option ℕ
+unfoldable pub partner_of : List Made → Posting → Option ℕ
 partner_of all p = option_map (λ e. e.0) (find (λ e. is_open_to p e.1) (numbered all))
 
 -- the posting of number n now has the partner k, and every other is as it was
@@ -34,7 +34,7 @@ made_with all p (Some n) = with_partner all n (length all + 1) ++ record { posti
 made_with all p None = all ++ record { posting = p; met = None } ∷ []
 
 -- a posting is made
-abbrev pub with_posting : List Made → Posting → List Made
+unfoldable pub with_posting : List Made → Posting → List Made
 with_posting all p = made_with all p (partner_of all p)
 
 -- what a queue is after these postings
@@ -44,7 +44,7 @@ matching_of all = record { made = length all; waiting = map (λ e. (e.0, e.1.pos
 -- The posting of number n is unmatched, of the other kind and fits, and no earlier one is.
 pub record IsPartner (all : List Made) (p : Posting) (n : ℕ) : Type 0 where
   pub counted : 0 < n
-  pub «open» : IsSomeAnd (slice_get all (n - 1)) (λ m. IsTrue (is_open_to p m))
+  pub meets : IsSomeAnd (slice_get all (n - 1)) (λ m. IsTrue (is_open_to p m))
   pub first : (k : ℕ) (m : Made) → k + 1 < n → slice_get all k ≡ Some m → is_open_to p m ≡ false
 
 -- no two postings that are unmatched are of two kinds and fit

@@ -11,7 +11,7 @@ pub record Matching : Type 0 where
   pub waiting : List (ℕ × Posting)
 
 -- the number of the first posting that waits, is of the other kind and fits
-abbrev pub partner : List (ℕ × Posting) → Posting → Option ℕ
+unfoldable pub partner : List (ℕ × Posting) → Posting → Option ℕ
 partner waiting p = option_map (λ w. w.0) (find (λ w. is_match p w.1) waiting)
 
 -- the postings of other numbers
@@ -24,7 +24,7 @@ posted_with q p (Some n) = record { made = q.made + 1; waiting = without q.waiti
 posted_with q p None = record { made = q.made + 1; waiting = q.waiting ++ (q.made + 1, p) ∷ [] }
 
 -- what is left behind a posting
-abbrev pub posted : Matching → Posting → Matching
+unfoldable pub posted : Matching → Posting → Matching
 posted q p = posted_with q p (partner q.waiting p)
 
 -- numbers rise, and each is one that was given

@@ -38,6 +38,7 @@ impl Queue {
     /// Makes a posting: its number, and the number of its partner, the fitting posting made first among those
     /// of the other kind that wait (MPI 3.1, sections 3.2.4 and 3.5). The two leave the queue; a posting without
     /// a partner waits. After want of memory the queue is as it was.
+    #[tactic(auto, unfolding(crate::specs::Matching::posted))]
     pub fn post(&mut self, p: Posting) -> Result<(u32, Option<u32>), Memory>
         requires { self.old.made < 4294967000 }
         ensures number { IfOk result (λ r. r.0 ≡ self.old.made + 1) }
@@ -72,6 +73,7 @@ impl Queue {
 }
 
 /// The number of the first posting that may meet this one.
+#[tactic(auto, unfolding(crate::specs::Matching::partner))]
 fn first_partner(waiting: &[(u32, Posting)], p: &Posting) -> Option<u32>
     ensures { result ≡ partner waiting.now p.now }
 {

@@ -2,6 +2,7 @@ use Rattle.std.proofs.Common.{refl}
 use Rattle.mpi_queue.proofs.Fitting.{is_fit-Fits}
 use Rattle.mpi_queue.proofs.Partners.{partner-matching_of, partner_of-IsPartner, partner_of-None}
 use Rattle.mpi_queue.proofs.Histories.{posted-matching_of}
+use Rattle.mpi_queue.proofs.Changes.{with_posting-made, with_posting-joined, with_posting-others}
 use Rattle.mpi_queue.proofs.Settled.{IsSettled-none, IsSettled-with_posting}
 use Rattle.mpi_queue.proofs.laws.matching_laws.Goals as goal
 
@@ -13,6 +14,9 @@ returns c = record {
   after = posted-matching_of;
   first = partner_of-IsPartner;
   none = partner_of-None;
+  made = with_posting-made;
+  joined = with_posting-joined;
+  others = with_posting-others;
   settled_first = IsSettled-none;
   settled = IsSettled-with_posting;
 }
