@@ -39,7 +39,10 @@ with_posting all p = made_with all p (partner_of all p)
 
 -- what a queue is after these postings
 abbrev pub matching_of : List Made → Matching
-matching_of all = record { made = length all; waiting = map (λ e. (e.0, e.1.posting)) (filter (λ e. is_none e.1.met) (numbered all)) }
+matching_of all = record {
+  made = length all;
+  waiting = map (λ e. (e.0, e.1.posting)) (filter (λ e. is_none e.1.met) (numbered all));
+}
 
 -- The posting of number n is unmatched, of the other kind and fits, and no earlier one is.
 pub record IsPartner (all : List Made) (p : Posting) (n : ℕ) : Type 0 where
@@ -49,4 +52,6 @@ pub record IsPartner (all : List Made) (p : Posting) (n : ℕ) : Type 0 where
 
 -- no two postings that are unmatched are of two kinds and fit
 abbrev pub IsSettled : List Made → Type 0
-IsSettled all = (i j : ℕ) (a b : Made) → slice_get all i ≡ Some a → slice_get all j ≡ Some b → a.met ≡ None → b.met ≡ None → is_match a.posting b.posting ≡ false
+IsSettled all = (i j : ℕ) (a b : Made)
+    → slice_get all i ≡ Some a → slice_get all j ≡ Some b → a.met ≡ None → b.met ≡ None
+    → is_match a.posting b.posting ≡ false

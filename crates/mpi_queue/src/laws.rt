@@ -18,12 +18,17 @@ pub fn matching_laws()
 
     // The partner, over the list of all postings.
     ensures first { (all : List Made) (p : Posting) (n : ℕ) → partner_of all p ≡ Some n → IsPartner all p n }
-    ensures none { (all : List Made) (p : Posting) → partner_of all p ≡ None → (k : ℕ) (m : Made) → slice_get all k ≡ Some m → is_open_to p m ≡ false }
+    ensures none { (all : List Made) (p : Posting) (k : ℕ) (m : Made) →
+        partner_of all p ≡ None → slice_get all k ≡ Some m → is_open_to p m ≡ false }
 
     // A posting is made behind all others. Its partner has it as its partner, and no other posting changes.
-    ensures made { (all : List Made) (p : Posting) → slice_get (with_posting all p) (length all) ≡ Some (record { posting = p; met = partner_of all p }) }
-    ensures joined { (all : List Made) (p : Posting) (n : ℕ) (m : Made) → partner_of all p ≡ Some n → slice_get all (n - 1) ≡ Some m → slice_get (with_posting all p) (n - 1) ≡ Some (record m { met = Some (length all + 1) }) }
-    ensures others { (all : List Made) (p : Posting) (k : ℕ) (m : Made) → slice_get all k ≡ Some m → partner_of all p ≢ Some (k + 1) → slice_get (with_posting all p) k ≡ Some m }
+    ensures made { (all : List Made) (p : Posting) →
+        slice_get (with_posting all p) (length all) ≡ Some (record { posting = p; met = partner_of all p }) }
+    ensures joined { (all : List Made) (p : Posting) (n : ℕ) (m : Made) →
+        partner_of all p ≡ Some n → slice_get all (n - 1) ≡ Some m →
+        slice_get (with_posting all p) (n - 1) ≡ Some (record m { met = Some (length all + 1) }) }
+    ensures others { (all : List Made) (p : Posting) (k : ℕ) (m : Made) →
+        slice_get all k ≡ Some m → partner_of all p ≢ Some (k + 1) → slice_get (with_posting all p) k ≡ Some m }
 
     // Nothing that could be matched is left unmatched.
     ensures settled_first { IsSettled [] }
