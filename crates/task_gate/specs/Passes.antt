@@ -81,3 +81,7 @@ leaving_with = leaving
 -- the pass number k of a gate, which has made no item and seen none
 abbrev pub IsNew : TableId → Gv → ℕ → Pass → Type 0
 IsNew z b k p = (gate_of p ≡ z) × (base_of p ≡ b) × IsOutside p × (claims p ≡ (k, []) ∷ [])
+
+-- a pass of that gate with that number, which is outside
+abbrev pub IsAt : TableId → ℕ → Pass → Type 0
+IsAt z n p = (gate_of p ≡ z) × IsOutside p × (number p ≡ n)

@@ -1,7 +1,6 @@
-// An item of a history, as contracts see it.
 use std::marker::Model;
 
-/// It stands for the code of any value, in proofs alone. No value of it is made.
+/// Stands for the code of any value, in proofs alone. No value of it is made.
 pub struct Item {}
 
 impl Model for Item {

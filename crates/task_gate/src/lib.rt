@@ -20,3 +20,6 @@ pub use items::Item;
 pub use passes::Pass;
 pub use plays::InTurn;
 pub use views::{Stage, View};
+
+#[cfg(test)]
+mod tests;

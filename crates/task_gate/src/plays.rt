@@ -1,9 +1,10 @@
-// The rule of the gate's table, and what each step tells.
+//! The rule of the gate's table, and what each step tells the pass that makes it.
 use crate::views::View;
-use mpc_base::Traced;
 use atomic_table::{Join, Play, Split, TableRule};
+use mpc_base::Traced;
 use std::snapshot::Snapshot;
 
+/// The rule that holds of the words, the slot and what all passes know, between any two steps.
 pub struct InTurn;
 
 impl<S: Traced> TableRule<Option<S>, View, Snapshot<S>> for InTurn {
@@ -14,6 +15,7 @@ impl<S: Traced> TableRule<Option<S>, View, Snapshot<S>> for InTurn {
     ghost first = { λ key. maker (S.base key.value) 0 };
 }
 
+// draw: adds 1 to the tickets drawn
 pub struct Draw;
 
 impl<S> Play<Option<S>, View> for Draw {
@@ -22,6 +24,7 @@ impl<S> Play<Option<S>, View> for Draw {
     ghost then = { drew };
 }
 
+// look: loads the tickets served, and takes the slot where its turn has come
 pub struct Look;
 
 impl<S: Traced> Play<Option<S>, View> for Look {
@@ -30,6 +33,7 @@ impl<S: Traced> Play<Option<S>, View> for Look {
     ghost then = { looked S.base S.history };
 }
 
+// look: loads the tickets served, and lays the emptied slot down
 pub struct SetDown;
 
 impl<S> Play<Option<S>, View> for SetDown {
@@ -38,6 +42,7 @@ impl<S> Play<Option<S>, View> for SetDown {
     ghost then = { set_down };
 }
 
+// look: loads the tickets served, and takes the empty slot up again
 pub struct PickUp;
 
 impl<S> Play<Option<S>, View> for PickUp {
@@ -46,6 +51,7 @@ impl<S> Play<Option<S>, View> for PickUp {
     ghost then = { picked_up };
 }
 
+// count: adds 0 or 1 to the items. This is the event
 pub struct Count;
 
 impl<S: Traced> Play<Option<S>, View> for Count {
@@ -54,6 +60,7 @@ impl<S: Traced> Play<Option<S>, View> for Count {
     ghost then = { counted S.base S.history };
 }
 
+// serve: adds 1 to the tickets served
 pub struct Serve;
 
 impl<S> Play<Option<S>, View> for Serve {
@@ -62,6 +69,7 @@ impl<S> Play<Option<S>, View> for Serve {
     ghost then = { put_out };
 }
 
+// split and join: each loads word 0
 pub struct Numbers;
 
 impl Split<View> for Numbers {

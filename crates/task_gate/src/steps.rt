@@ -1,4 +1,4 @@
-// The gate's steps.
+//! The steps of a visit, each over the pass's seat at the gate's table.
 ghost use Rattle.std.specs.Prelude.{◌≡◌, ℕ, ◌%◌, ◌^◌, ◌<◌, [], ◌∷◌, length, Some, false, true};
 ghost use Rattle.task_gate.specs.History.{Adds, KeepsAll};
 ghost use Rattle.task_gate.specs.Rule.{at_stage, ticket_of, history_of};
@@ -7,39 +7,50 @@ ghost use Rattle.task_gate.specs.declared.views.Stage.TheVariants.{Outside, Wait
 
 use crate::plays::{Count, Draw, InTurn, Look, PickUp, Serve, SetDown};
 use crate::views::View;
-use mpc_base::Traced;
 use atomic_table::{Seat, Shared};
 use crossbeam_utils::Backoff;
+use mpc_base::Traced;
 use std::snapshot::Snapshot;
 use std::sync::Wait;
 
-pub(crate) type Desk<S> = Shared<Option<S>, View, Snapshot<S>, InTurn>;
+pub(crate) type GateTable<S> = Shared<Option<S>, View, Snapshot<S>, InTurn>;
 
-pub(crate) type Place<S> = Seat<Option<S>, View>;
+pub(crate) type GateSeat<S> = Seat<Option<S>, View>;
 
-pub(crate) fn draw<S: Traced>(desk: &Desk<S>, place: &mut Place<S>) -> u64
-    requires fits { (place.old.table_id ≡ desk.now.table_id) × IsSized desk.now.table_id }
-    requires ready { (place.old.me.1 ≡ []) × (place.old.me.0.stage ≡ Outside) × (0 < place.old.me.0.parts) }
-    ensures same { (place.new.table_id ≡ place.old.table_id) × (place.new.id ≡ place.old.id) }
-    ensures drew { (t : ℕ) × (place.new.me ≡ (at_stage place.old.me.0 (Waits t), [])) × (t % 2 ^ 64 ≡ result) }
+// The words of the table, which count tickets drawn, tickets served and items; its one slot has the value.
+const DRAWN: usize = 0;
+
+const SERVED: usize = 1;
+
+const ITEMS: usize = 2;
+
+const VALUE: usize = 0;
+
+// Draws a ticket.
+pub(crate) fn draw<S: Traced>(table: &GateTable<S>, seat: &mut GateSeat<S>) -> u64
+    requires fits { (seat.old.table_id ≡ table.now.table_id) × IsSized table.now.table_id }
+    requires ready { (seat.old.me.1 ≡ []) × (seat.old.me.0.stage ≡ Outside) × (0 < seat.old.me.0.parts) }
+    ensures same { (seat.new.table_id ≡ seat.old.table_id) × (seat.new.id ≡ seat.old.id) }
+    ensures drew { (t : ℕ) × (seat.new.me ≡ (at_stage seat.old.me.0 (Waits t), [])) × (t % 2 ^ 64 ≡ result) }
 {
-    desk.fetch_add::<Draw>(place, 0, 1)
+    table.fetch_add::<Draw>(seat, DRAWN, 1)
 }
 
+// Looks until the ticket is served, and then has the slot with the value in hand.
 pub(crate) fn wait_turn<S: Traced, R: Wait>(
     rt: &R,
-    desk: &Desk<S>,
-    place: &mut Place<S>,
+    table: &GateTable<S>,
+    seat: &mut GateSeat<S>,
     ticket: u64,
 )
-    requires fits { (place.old.table_id ≡ desk.now.table_id) × IsSized desk.now.table_id }
-    requires ready { (place.old.me.1 ≡ []) × (place.old.me.0.stage ≡ Waits (ticket_of place.old.me.0.stage)) × (ticket_of place.old.me.0.stage % 2 ^ 64 ≡ ticket) }
-    ensures same { (place.new.table_id ≡ place.old.table_id) × (place.new.id ≡ place.old.id) }
-    ensures came { (x : S) × (place.new.me ≡ (at_stage place.old.me.0 (Inside (ticket_of place.old.me.0.stage) (S.history x) true), (0, Some x) ∷ [])) × (S.base x ≡ place.old.me.0.base) × KeepsAll (S.history x) place.old.me.0.claims }
+    requires fits { (seat.old.table_id ≡ table.now.table_id) × IsSized table.now.table_id }
+    requires ready { (seat.old.me.1 ≡ []) × (seat.old.me.0.stage ≡ Waits (ticket_of seat.old.me.0.stage)) × (ticket_of seat.old.me.0.stage % 2 ^ 64 ≡ ticket) }
+    ensures same { (seat.new.table_id ≡ seat.old.table_id) × (seat.new.id ≡ seat.old.id) }
+    ensures came { (x : S) × (seat.new.me ≡ (at_stage seat.old.me.0 (Inside (ticket_of seat.old.me.0.stage) (S.history x) true), (0, Some x) ∷ [])) × (S.base x ≡ seat.old.me.0.base) × KeepsAll (S.history x) seat.old.me.0.claims }
 {
     let backoff = Backoff::new();
     for _ in rt.forever() {
-        if desk.load::<Look>(place, 1) == ticket {
+        if table.load::<Look>(seat, SERVED) == ticket {
             return;
         }
         backoff.snooze();
@@ -47,30 +58,37 @@ pub(crate) fn wait_turn<S: Traced, R: Wait>(
     unreachable!()
 }
 
-pub(crate) fn take_out<S: Traced>(desk: &Desk<S>, place: &mut Place<S>) -> S
-    requires fits { (place.old.table_id ≡ desk.now.table_id) × IsSized desk.now.table_id }
-    requires inside { IsIn true place.old.me.0 × ((x : S) × (place.old.me.1 ≡ (0, Some x) ∷ [])) }
-    ensures same { (place.new.table_id ≡ place.old.table_id) × (place.new.id ≡ place.old.id) }
-    ensures value { place.old.me.1 ≡ (0, Some result) ∷ [] }
-    ensures seat { place.new.me ≡ (in_as false place.old.me.0, []) }
+// Takes the value out of the slot, and lays the slot down, so that the pass holds none while it is inside.
+pub(crate) fn take_out<S: Traced>(table: &GateTable<S>, seat: &mut GateSeat<S>) -> S
+    requires fits { (seat.old.table_id ≡ table.now.table_id) × IsSized table.now.table_id }
+    requires inside { IsIn true seat.old.me.0 × ((x : S) × (seat.old.me.1 ≡ (0, Some x) ∷ [])) }
+    ensures same { (seat.new.table_id ≡ seat.old.table_id) × (seat.new.id ≡ seat.old.id) }
+    ensures value { seat.old.me.1 ≡ (0, Some result) ∷ [] }
+    ensures seat { seat.new.me ≡ (in_as false seat.old.me.0, []) }
 {
-    let Some(state) = desk.exchange(place, 0, None) else {
+    let Some(state) = table.exchange(seat, VALUE, None) else {
         unreachable!()
     };
-    desk.load::<SetDown>(place, 1);
+    table.load::<SetDown>(seat, SERVED);
     state
 }
 
-pub(crate) fn give_back<S: Traced + Drop>(desk: &Desk<S>, place: &mut Place<S>, state: S, more: u64)
-    requires fits { (place.old.table_id ≡ desk.now.table_id) × IsSized desk.now.table_id }
-    requires inside { IsIn false place.old.me.0 × (place.old.me.1 ≡ []) × IsVisitor place.old.me.0 }
-    requires based { S.base state ≡ place.old.me.0.base }
-    requires adds { Adds (history_of place.old.me.0.stage) (S.history state) (number_of place.old.me.0.claims) more }
-    ensures same { (place.new.table_id ≡ place.old.table_id) × (place.new.id ≡ place.old.id) }
-    ensures seat { place.new.me ≡ (gone (S.history state) place.old.me.0, []) }
+// Puts the value into the slot, counts its new item, and serves the next ticket.
+pub(crate) fn give_back<S: Traced + Drop>(
+    table: &GateTable<S>,
+    seat: &mut GateSeat<S>,
+    state: S,
+    more: u64,
+)
+    requires fits { (seat.old.table_id ≡ table.now.table_id) × IsSized table.now.table_id }
+    requires inside { IsIn false seat.old.me.0 × (seat.old.me.1 ≡ []) × IsVisitor seat.old.me.0 }
+    requires based { S.base state ≡ seat.old.me.0.base }
+    requires adds { Adds (history_of seat.old.me.0.stage) (S.history state) (number_of seat.old.me.0.claims) more }
+    ensures same { (seat.new.table_id ≡ seat.old.table_id) × (seat.new.id ≡ seat.old.id) }
+    ensures seat { seat.new.me ≡ (gone (S.history state) seat.old.me.0, []) }
 {
-    desk.load::<PickUp>(place, 1);
-    drop(desk.exchange(place, 0, Some(state)));
-    desk.fetch_add::<Count>(place, 2, more);
-    desk.fetch_add::<Serve>(place, 1, 1);
+    table.load::<PickUp>(seat, SERVED);
+    drop(table.exchange(seat, VALUE, Some(state)));
+    table.fetch_add::<Count>(seat, ITEMS, more);
+    table.fetch_add::<Serve>(seat, SERVED, 1);
 }

@@ -14,7 +14,7 @@ load-requires g c = (c.requires.fits.0, omega (arith, c.requires.fits.1.0), pick
 
 pub fetch_add-requires : goal.fetch_add-requires
 fetch_add-requires g c =
-    let v = c.args.place.now.me.0 in
+    let v = c.args.seat.now.me.0 in
     let t : ℕ = ticket_of v.stage in
     let h : List (ℕ × Gv) = history_of v.stage in
     let picked = c.load.ensures.2 t h c.requires.inside.0 in
@@ -29,7 +29,7 @@ fetch_add-requires g c =
 
 pub fetch_add-requires-2 : goal.fetch_add-requires-2
 fetch_add-requires-2 g c =
-    let v = c.args.place.now.me.0 in
+    let v = c.args.seat.now.me.0 in
     let t : ℕ = ticket_of v.stage in
     let h : List (ℕ × Gv) = history_of v.stage in
     let x = c.args.state in
@@ -45,7 +45,7 @@ fetch_add-requires-2 g c =
 
 pub returns-clause-seat : goal.returns-clause-seat
 returns-clause-seat g c =
-    let v = c.args.place.now.me.0 in
+    let v = c.args.seat.now.me.0 in
     let t : ℕ = ticket_of v.stage in
     let h : List (ℕ × Gv) = history_of v.stage in
     let x = c.args.state in

@@ -6,9 +6,9 @@ use Rattle.task_gate.proofs.gates.Gate.new.Given as goal
 
 abbrev pub invariant-loop : goal.invariant-loop
 invariant-loop g l = record {
-  table : l.place.table_id ≡ l.gate.table.shared.table_id;
+  table : l.seat.table_id ≡ l.gate.table.shared.table_id;
   gate : l.gate ≡ l.initial.gate;
-  maker : l.place.me ≡ (maker (g.S.Traced.base l.fn.first) l.counter, []);
+  maker : l.seat.me ≡ (maker (g.S.Traced.base l.fn.first) l.counter, []);
   count : vec_len l.made ≡ l.counter;
   enough : l.counter ≤ l.passes;
   each : (k : ℕ) (p : Pass) → slice_get l.made.items k ≡ Some p → IsNew l.gate.table.shared.table_id (g.S.Traced.base l.fn.first) k p;
