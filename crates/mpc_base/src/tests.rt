@@ -40,10 +40,7 @@ impl Job for LooksAtMark {
 }
 
 // The number and the mark that the job found, where it was started.
-fn started_and_joined<
-    S: Spawner<LooksAtMark>,
-    R: Threads + Wait + Clone + Drop + Send + 'static,
->(
+fn started_and_joined<S: Spawner<LooksAtMark>, R: Threads + Wait + Clone + Drop + Send + 'static>(
     rt: &R,
     spawner: &mut S,
     number: u64,

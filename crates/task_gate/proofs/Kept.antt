@@ -1,5 +1,5 @@
 -- Each step keeps the rule.
-use Rattle.std.proofs.Common.{◌≡◌, ◌≢◌, ◌⊎◌, ℕ, zero, suc, ◌+◌, ◌-◌, ◌%◌, ◌^◌, ◌<◌, ◌≤◌, List, [], ◌∷◌, ◌++◌, length, set, cond, eqb, eq-eqb, ne_eqb, refl, sym, ap, ◌∙◌, subst, inl, inr, ⊎_elim, arith, Bool, true, false, true≢false, length-append, Option, Some, None}
+use Rattle.std.proofs.Common.{◌≡◌, ◌≢◌, ℕ, zero, suc, ◌+◌, ◌%◌, ◌^◌, ◌<◌, ◌≤◌, List, [], ◌∷◌, ◌++◌, length, set, cond, eqb, eq-eqb, ne_eqb, refl, sym, ap, ◌∙◌, subst, ⊎_elim, arith, Bool, true, false, true≢false, length-append, Option, Some, None}
 use Rattle.std.specs.Prelude.{slice_index, slice_set}
 use Rattle.std.proofs.Math.Nat.{mod-add-mod}
 use mathlib.Core.Option as maybe
@@ -7,14 +7,14 @@ use mathlib.Core.Option.{some, none, some-injective, some-ne-none}
 use native.Mathlib.Decide.{ℕ_discrete}
 use lib.ListN.{get_elem?}
 use base.Stored.{Gv}
-use Rattle.atomic_table.specs.Table.{State, Me, Step, step, Act, keeps, takes, gives, Allows, Splits, Joins, put_back, rest, Valid, opening, stepped, carried_after, homes_after}
-use Rattle.atomic_table.proofs.Lists.{at_set, set_again, set_here, one_turn}
+use Rattle.atomic_table.specs.Table.{State, Me, Step, step, Act, keeps, takes, gives, Allows, Splits, Joins, put_back, rest, Valid, opening, stepped, carried_after}
+use Rattle.atomic_table.proofs.Lists.{at_set, set_again, one_turn}
 use Rattle.task_gate.specs.History.{items_of, StartsWith, Keeps, KeepsAll, Adds}
-use Rattle.task_gate.specs.Rule.{total, busy, parts, all_parts, Owned, NotAmong, FirstApart, NotIn, Turn, Knows, Slot, Ruled, maker, fresh_pass, one_less, next_pass, joined, spent, at_stage, leaving, counted_view, waits_or_inside, drew, looked, Comes, counted, set_down, picked_up, put_out, ticket_of, history_of}
+use Rattle.task_gate.specs.Rule.{total, busy, parts, Owned, NotAmong, FirstApart, NotIn, Turn, Knows, Slot, Ruled, maker, one_less, next_pass, joined, spent, at_stage, leaving, counted_view, waits_or_inside, drew, looked, Comes, counted, set_down, picked_up, put_out, ticket_of, history_of}
 use Rattle.task_gate.specs.declared.views.View.{View}
 use Rattle.task_gate.specs.declared.views.Stage.{Stage}
 use Rattle.task_gate.specs.declared.views.Stage.TheVariants.{Outside, Waits, Inside}
-use Rattle.task_gate.proofs.Lists.{total_set, total_snoc, total_le, length_set, at_below, at_end, each_set, starts_more, starts_same, keeps_more, not_owned, owned_as, owned_both, apart_both, keeps_both}
+use Rattle.task_gate.proofs.Lists.{total_set, total_snoc, total_le, length_set, at_below, at_end, each_set, starts_same, keeps_more, not_owned, owned_as, owned_both, apart_both, keeps_both}
 
 abbrev W : ℕ
 W = 18446744073709551616

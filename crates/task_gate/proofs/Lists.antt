@@ -1,10 +1,10 @@
 -- Totals over the views, and items by number.
-use Rattle.std.proofs.Common.{◌≡◌, ◌≢◌, ◌⊎◌, ℕ, zero, suc, ◌+◌, ◌≤◌, List, [], ◌∷◌, ◌++◌, length, set, cond, eqb, eq-eqb, ne_eqb, refl, sym, ap, ◌∙◌, subst, inl, inr, ⊎_elim, arith, append_assoc, append-nil}
+use Rattle.std.proofs.Common.{◌≡◌, ◌≢◌, ◌⊎◌, ℕ, zero, suc, ◌+◌, ◌≤◌, List, [], ◌∷◌, ◌++◌, length, set, refl, sym, ap, ◌∙◌, subst, inl, inr, ⊎_elim, arith, append_assoc, append-nil}
 use mathlib.Core.Option.{some, some-injective, some-ne-none}
 use lib.ListN.{get_elem?}
 use base.Stored.{Gv}
 use Rattle.atomic_table.proofs.Lists.{at_set}
-use Rattle.task_gate.specs.History.{items_of, StartsWith, Keeps, KeepsAll}
+use Rattle.task_gate.specs.History.{items_of, StartsWith, KeepsAll}
 use Rattle.task_gate.specs.Rule.{total, Owned, NotAmong}
 use Rattle.task_gate.specs.declared.views.View.{View}
 

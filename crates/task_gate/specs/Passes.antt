@@ -1,11 +1,10 @@
 -- What contracts say of a pass.
-use Rattle.std.specs.Prelude.{◌≡◌, ℕ, ◌<◌, List, [], ◌∷◌, ◌++◌, length, Bool, true, false}
+use Rattle.std.specs.Prelude.{◌≡◌, ℕ, ◌<◌, List, [], ◌∷◌, length, Bool, false}
 use base.Stored.{Gv}
 use Rattle.atomic_table.specs.Seated.{TableId}
 use Rattle.task_gate.specs.Rule.{spent, ticket_of, history_of, at_stage, counted_view, leaving}
 use Rattle.task_gate.specs.declared.views.View.{View}
-use Rattle.task_gate.specs.declared.views.Stage.{Stage}
-use Rattle.task_gate.specs.declared.views.Stage.TheVariants.{Outside, Waits, Inside}
+use Rattle.task_gate.specs.declared.views.Stage.TheVariants.{Outside, Inside}
 use Rattle.task_gate.specs.declared.passes.Pass.{Pass}
 
 abbrev pub IsSized : TableId → Type 0

@@ -1,9 +1,8 @@
-use Rattle.std.proofs.Common.{◌≡◌, ℕ, arith, [], ◌∷◌, Some, None, true, refl, sym, ap, ◌∙◌, subst, length, ◌<◌, List}
+use Rattle.std.proofs.Common.{ℕ, arith, [], ◌∷◌, Some, true, refl, sym, ap, ◌∙◌, List}
 use base.Stored.{Gv}
 use Rattle.atomic_table.specs.Table.{rest, Me}
-use Rattle.task_gate.specs.History.{Adds}
 use Rattle.task_gate.specs.Rule.{at_stage, ticket_of, history_of, counted_view}
-use Rattle.task_gate.specs.Passes.{number_of, left_of, in_as}
+use Rattle.task_gate.specs.Passes.{number_of, left_of}
 use Rattle.task_gate.specs.declared.views.Stage.TheVariants.{Inside, Outside}
 use Rattle.task_gate.proofs.Claims.{rest_of, parted}
 use Rattle.task_gate.proofs.Kept.{picks_up, counts, serves}

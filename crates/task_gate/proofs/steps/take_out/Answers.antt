@@ -1,4 +1,4 @@
-use Rattle.std.proofs.Common.{◌≡◌, arith, [], ◌∷◌, Some, None, true, sym, ap, ◌∙◌}
+use Rattle.std.proofs.Common.{arith, ◌∷◌, Some, None, sym, ap, ◌∙◌}
 use Rattle.atomic_table.specs.Table.{rest}
 use Rattle.task_gate.proofs.Kept.{sets_down}
 use Rattle.task_gate.proofs.steps.take_out.Goals as goal

@@ -1,4 +1,4 @@
-use Rattle.std.proofs.Common.{arith, sym, ap, ◌∙◌}
+use Rattle.std.proofs.Common.{arith, ap, ◌∙◌}
 use Rattle.task_gate.proofs.Kept.{looks}
 use Rattle.task_gate.proofs.steps.wait_turn.Goals as goal
 

@@ -1,5 +1,4 @@
-use Rattle.std.proofs.Common.{◌≡◌, ℕ, List, ◌-◌, ◌≤◌, sym, ap, ◌∙◌, subst, length}
-use base.Stored.{Gv}
+use Rattle.std.proofs.Common.{◌-◌, sym, ap, ◌∙◌, subst}
 use Rattle.task_gate.specs.History.{Adds}
 use Rattle.task_gate.specs.Rule.{history_of}
 use Rattle.task_gate.specs.Passes.{got, number, number_of}

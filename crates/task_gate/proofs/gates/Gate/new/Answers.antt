@@ -1,6 +1,5 @@
-use Rattle.std.proofs.Common.{◌≡◌, ℕ, List, [], ◌∷◌, ◌++◌, ◌+◌, ◌<◌, ◌≤◌, ◌-◌, ◌⊎◌, length, vec_len, slice_get, Some, arith, refl, sym, ap, ◌∙◌, subst, rules, ⊎_elim}
-use Rattle.atomic_table.specs.Table.{Splits}
-use Rattle.task_gate.specs.Rule.{Ruled, maker, one_less, next_pass, all_parts, fresh_pass}
+use Rattle.std.proofs.Common.{◌≡◌, ℕ, [], ◌∷◌, ◌<◌, ◌-◌, length, vec_len, slice_get, Some, arith, refl, sym, ap, ◌∙◌, subst, rules, ⊎_elim}
+use Rattle.task_gate.specs.Rule.{maker, one_less, next_pass, all_parts}
 use Rattle.task_gate.specs.Passes.{IsNew}
 use Rattle.task_gate.specs.declared.views.View.{View}
 use Rattle.task_gate.specs.declared.passes.Pass.{Pass}

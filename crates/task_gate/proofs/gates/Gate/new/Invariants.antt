@@ -1,4 +1,4 @@
-use Rattle.std.proofs.Common.{◌≡◌, ℕ, List, [], vec_len, slice_get, Some, ◌≤◌}
+use Rattle.std.proofs.Common.{◌≡◌, ℕ, [], vec_len, slice_get, Some, ◌≤◌}
 use Rattle.task_gate.specs.Rule.{maker}
 use Rattle.task_gate.specs.declared.passes.Pass.{Pass}
 use Rattle.task_gate.specs.Passes.{IsNew}

@@ -1,6 +1,4 @@
-use Rattle.std.proofs.Common.{◌≡◌, [], ◌∷◌, Some, sym, ap, ◌∙◌, subst, rules}
-use Rattle.atomic_table.specs.Table.{opening}
-use Rattle.task_gate.specs.Rule.{Ruled, maker}
+use Rattle.std.proofs.Common.{◌≡◌, [], ◌∷◌, Some, rules}
 use Rattle.task_gate.proofs.Kept.{begins}
 use Rattle.task_gate.proofs.gates.Gate.of.Goals as goal
 

@@ -1,6 +1,5 @@
-use Rattle.std.proofs.Common.{◌≡◌, ℕ, List, ◌++◌, arith, sym, ap, ◌∙◌}
-use Rattle.task_gate.specs.Passes.{pass_view, number_of, left_of, view_or, claims}
-use Rattle.task_gate.specs.Rule.{joined}
+use Rattle.std.proofs.Common.{◌++◌, arith, ap, ◌∙◌}
+use Rattle.task_gate.specs.Passes.{pass_view, number_of, left_of, view_or}
 use Rattle.task_gate.proofs.Claims.{parted, rest_of}
 use Rattle.task_gate.proofs.Kept.{joins}
 use Rattle.task_gate.proofs.passes.Pass.absorb.Goals as goal
