@@ -4,6 +4,7 @@ ghost use Rattle.mpc_base.specs.Starts.{ChoiceCounts};
 use crate::jobs::Job;
 use crate::spawners::{Asked, Choice, Spawner};
 use std::alloc::Global;
+use std::marker::Model;
 use std::sync::Arc;
 use std::sync::atomic::{AtomicU32, Ordering};
 
@@ -16,11 +17,18 @@ pub struct LateSpawner {
     starts: u64,
 }
 
+impl Model for LateSpawner {
+    ghost use Rattle.mpc_base.specs.Starts.{SpawnCounts};
+
+    ghost Value = { SpawnCounts };
+
+    ghost view = { λ spawner. record { faults = spawner.faults; starts = spawner.starts } };
+}
+
 impl LateSpawner {
     /// A spawner that has started nothing. It sets the mark to 0.
     pub fn new(mark: Arc<AtomicU32, Global>) -> LateSpawner
-        ensures faults { result.faults ≡ 0 }
-        ensures starts { result.starts ≡ 0 }
+        ensures { result ≡ record { faults = 0; starts = 0 } }
     {
         mark.store(0, Ordering::SeqCst);
         LateSpawner {

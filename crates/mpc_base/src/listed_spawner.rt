@@ -1,7 +1,7 @@
-ghost use Rattle.std.specs.Prelude.{◌≡◌, ◌+◌, ◌-◌, ◌^◌, ◌≤◌, min};
+ghost use Rattle.std.specs.Prelude.{◌≡◌};
 ghost use Rattle.std.specs.Bool.{OnTrue, OnFalse};
-ghost use Rattle.mpc_base.specs.Starts.{ChoiceCounts};
-ghost use Rattle.mpc_base.specs.FailLists.{fails_now, counted, failed_so_far};
+ghost use Rattle.mpc_base.specs.Starts.{ChoiceCounts, faults_with, inner_of, refusals_of};
+ghost use Rattle.mpc_base.specs.FailLists.{fails_now, counted};
 
 use crate::fail_list::FailList;
 use crate::jobs::Job;
@@ -17,8 +17,8 @@ pub struct ListedSpawner<S> {
 impl<S> ListedSpawner<S> {
     /// A spawner that refuses the starts with a number in `fails`, counted from 0.
     pub fn new(inner: S, fails: Vec<u64>) -> ListedSpawner<S>
-        ensures inner { result.inner ≡ inner }
-        ensures fails { result.fails ≡ record { listed = fails.items; calls = 0 } }
+        ensures inner { inner_of result ≡ inner }
+        ensures fails { refusals_of result ≡ record { listed = fails.items; calls = 0 } }
     {
         ListedSpawner {
             inner,
@@ -28,19 +28,18 @@ impl<S> ListedSpawner<S> {
 }
 
 impl<J: Job, S: Spawner<J>> Spawner<J> for ListedSpawner<S> {
-    ghost use Rattle.std.specs.Prelude.{◌+◌, ◌-◌, ◌^◌, min};
-    ghost use Rattle.mpc_base.specs.FailLists.{failed_so_far};
+    ghost use Rattle.mpc_base.specs.Starts.{faults_with, inner_of, refusals_of};
 
-    ghost faults = { λ spawner. min (S.faults spawner.inner + failed_so_far spawner.fails) (2 ^ 64 - 1) };
+    ghost faults = { λ spawner. faults_with (S.faults (inner_of spawner)) (refusals_of spawner) };
 
-    ghost starts = { λ spawner. S.starts spawner.inner };
+    ghost starts = { λ spawner. S.starts (inner_of spawner) };
 
     fn choose(&mut self, by: &Asked) -> Choice
-        ensures refused { OnTrue (fails_now self.old.fails) ((result ≡ Choice.Refuse) × (self.new.inner ≡ self.old.inner)) }
-        ensures passed { OnFalse (fails_now self.old.fails) (ChoiceCounts result (S.faults self.old.inner) (S.faults self.new.inner)) }
-        ensures counts { self.new.fails ≡ counted self.old.fails }
-        ensures faults { ChoiceCounts result (min (S.faults self.old.inner + failed_so_far self.old.fails) (2 ^ 64 - 1)) (min (S.faults self.new.inner + failed_so_far self.new.fails) (2 ^ 64 - 1)) }
-        ensures starts { S.starts self.new.inner ≡ S.starts self.old.inner }
+        ensures refused { OnTrue (fails_now (refusals_of self.old)) ((result ≡ Choice.Refuse) × (inner_of self.new ≡ inner_of self.old)) }
+        ensures passed { OnFalse (fails_now (refusals_of self.old)) (ChoiceCounts result (S.faults (inner_of self.old)) (S.faults (inner_of self.new))) }
+        ensures counts { refusals_of self.new ≡ counted (refusals_of self.old) }
+        ensures faults { ChoiceCounts result (faults_with (S.faults (inner_of self.old)) (refusals_of self.old)) (faults_with (S.faults (inner_of self.new)) (refusals_of self.new)) }
+        ensures starts { S.starts (inner_of self.new) ≡ S.starts (inner_of self.old) }
     {
         if self.fails.next() {
             Choice::Refuse

@@ -1,9 +1,9 @@
-ghost use Rattle.std.specs.Prelude.{◌≡◌, ◌+◌, ◌-◌, ◌^◌, ◌≤◌, min};
-ghost use Rattle.mpc_base.specs.Causes.{Rose};
+ghost use Rattle.std.specs.Prelude.{◌≡◌};
 ghost use Rattle.mpc_base.specs.Starts.{ChoiceCounts, thread_choice};
 
 use crate::jobs::Job;
 use crate::spawners::{Asked, Choice, Spawner};
+use std::marker::Model;
 
 /// Starts each job on a thread of std's. A start that finds no thread is a fault; where the count of
 /// faults stands at its last value, each start is one.
@@ -13,11 +13,18 @@ pub struct ThreadSpawner {
     starts: u64,
 }
 
+impl Model for ThreadSpawner {
+    ghost use Rattle.mpc_base.specs.Starts.{SpawnCounts};
+
+    ghost Value = { SpawnCounts };
+
+    ghost view = { λ spawner. record { faults = spawner.faults; starts = spawner.starts } };
+}
+
 impl ThreadSpawner {
     /// A spawner that has started nothing.
     pub fn new() -> ThreadSpawner
-        ensures faults { result.faults ≡ 0 }
-        ensures starts { result.starts ≡ 0 }
+        ensures { result ≡ record { faults = 0; starts = 0 } }
     {
         ThreadSpawner {
             faults: 0,

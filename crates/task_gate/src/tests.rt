@@ -1,15 +1,15 @@
 //! Visits on several threads, and a pass that lies in another gate's value.
-ghost use Rattle.std.specs.Prelude.{◌≡◌, ◌++◌, ◌∷◌, [], IfSome, MatchBool, ℕ, length, map, vec_len};
+ghost use Rattle.std.specs.Prelude.{◌≡◌, ◌++◌, ◌∷◌, [], IfSome, MatchBool, ℕ, map, vec_len};
 ghost use base.Stored.{Gv, gnum};
 ghost use Rattle.std.specs.Arc.{arc_value};
 ghost use Rattle.mpc_base.specs.Starts.{job_of};
 ghost use Rattle.task_gate.specs.Names.{gate_id};
-ghost use Rattle.task_gate.specs.Passes.{base_of, gate_of, number, IsAt, IsOutside};
+ghost use Rattle.task_gate.specs.Passes.{gate_of, IsAt, IsOutside};
 
 use crate::gates::Gate;
 use crate::passes::Pass;
 use mpc_base::{Job, Spawner, Started, ThreadSpawner, Traced};
-use std::alloc::{AllocError, Global};
+use std::alloc::Global;
 use std::marker::Model;
 use std::sync::{Arc, Wait};
 use std::test::*;
