@@ -7,20 +7,37 @@ mod calls;
 mod fail_list;
 mod failures;
 mod file_store;
+mod histories;
+mod jobs;
 mod journals;
+mod late_spawner;
+mod listed_spawner;
 mod lists;
 mod mem_files;
 mod mem_sink;
 mod owners;
+mod paces;
+mod spawners;
+mod thread_spawner;
 mod values;
 
 pub use byte_sink::Sink;
 pub use calls::{Answer, Call, Fault, Out};
 pub use failures::{Failed, Memory};
 pub use file_store::{Files, ReadAnswer, WriteAnswer};
+pub use histories::Traced;
+pub use jobs::{Job, Started};
 pub use journals::{End, Entry, Journal};
+pub use late_spawner::LateSpawner;
+pub use listed_spawner::ListedSpawner;
 pub use lists::{Cores, Entries, Text, Words};
 pub use mem_files::MemFiles;
 pub use mem_sink::MemSink;
 pub use owners::{Level, Owner, StaticVar};
+pub use paces::{FreePace, Pace};
+pub use spawners::{Asked, Choice, Spawner};
+pub use thread_spawner::ThreadSpawner;
 pub use values::{Datatype, Obj, Op, Word};
+
+#[cfg(test)]
+mod tests;
