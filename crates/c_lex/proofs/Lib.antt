@@ -1,5 +1,2 @@
-pub mod Fronts
-pub mod Ordered
-pub mod Runs
-pub mod Steps
-pub mod Unique
+pub mod DirectiveSteps
+pub mod PieceSteps

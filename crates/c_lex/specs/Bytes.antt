@@ -16,6 +16,18 @@ is_digit c = nat_le 48 c && nat_le c 57
 abbrev pub is_name_byte : ℕ → Bool
 is_name_byte c = is_letter c || is_digit c
 
+-- a blank that does not end the line
+abbrev pub is_gap : ℕ → Bool
+is_gap c = nat_eq c 32 || nat_eq c 9 || nat_eq c 13
+
+-- what a line is made of
+abbrev pub is_line_byte : ℕ → Bool
+is_line_byte c = not (nat_eq c 10)
+
+-- a digit of a hexadecimal number
+abbrev pub is_hex : ℕ → Bool
+is_hex c = is_digit c || (nat_le 97 c && nat_le c 102) || (nat_le 65 c && nat_le c 70)
+
 -- what a text holds as it is: no quote and no backslash
 abbrev pub is_plain : ℕ → Bool
 is_plain c = nat_le 32 c && nat_le c 126 && not (nat_eq c 34) && not (nat_eq c 92)

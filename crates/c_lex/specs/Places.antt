@@ -11,5 +11,6 @@ abbrev pub behind : Place → List ℕ → Place
 behind p [] = p
 behind p (c ∷ cs) = behind (behind_byte p c) cs
 
+-- the first byte
 abbrev pub start : Place
 start = record { at = 0; line = 1; col = 1 }

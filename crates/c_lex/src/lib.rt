@@ -1,11 +1,14 @@
-//! The tokens of a source: names, keys, numbers, texts and signs, each with its span and its place.
+//! The tokens of a source: names, keys, numbers, texts, signs and pragmas, each with its span and
+//! its place. Comments, blanks and the other directives give no token.
 #![tactic(auto)]
 
+mod bytes;
+mod defines;
+mod directives;
 mod pieces;
 mod places;
-mod scan;
+mod signs;
 mod tokens;
 mod words;
 
-pub use scan::lex;
 pub use tokens::{Kind, LexRefusal, Token};

@@ -7,9 +7,13 @@ pub enum Kind {
     Key,
     /// A number from 0 to the greatest value of 64 signed bits; it is a long where it has the
     /// suffix, or is too large for an int.
-    Number { value: i64, long: bool },
+    Number {
+        value: i64,
+        long: bool,
+    },
     Text,
     Sign,
+    /// What stands behind `#pragma` in its line.
     Pragma,
 }
 
@@ -30,4 +34,11 @@ pub struct Token {
 pub struct LexRefusal {
     pub line: u32,
     pub col: u32,
+}
+
+/// The number that a word spells, or that a name stands for.
+#[derive(Clone, Copy, Debug, PartialEq, Eq)]
+pub struct Literal {
+    pub value: i64,
+    pub long: bool,
 }
