@@ -7,4 +7,5 @@ pub mod Lexed
 pub mod Places
 pub mod Signs
 pub mod Spans
+pub mod Stops
 pub mod Words

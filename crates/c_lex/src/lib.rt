@@ -7,8 +7,10 @@ mod defines;
 mod directives;
 mod pieces;
 mod places;
+mod scan;
 mod signs;
 mod tokens;
 mod words;
 
+pub use scan::lex;
 pub use tokens::{Kind, LexRefusal, Token};
