@@ -1,10 +1,8 @@
 -- What stands behind a directive's word, by places of the source.
-use Rattle.std.proofs.Common.{◌≡◌, ℕ, suc, ◌+◌, ◌-◌, ◌≤◌, Bool, true, false, cond, not, ◌&&◌, List, [], ◌∷◌, ◌++◌, length, take, drop, refl, sym, ap, ◌∙◌, subst, arith, Option, Some, None, codes}
+use Rattle.std.proofs.Common.{◌≡◌, ℕ, ◌+◌, ◌-◌, Bool, true, false, cond, not, ◌&&◌, List, take, drop, refl, sym, ap, ◌∙◌, arith, Some, None, codes}
 use Rattle.std.proofs.lemmas.List.{drop-drop}
 use Rattle.std.specs.Option.{option_map}
 use Rattle.std.specs.Str.{bytes_eq}
-use Rattle.c_lex.specs.declared.tokens.Literal.{Literal}
-use Rattle.c_lex.specs.declared.pieces.Found.{Found}
 use Rattle.c_lex.specs.declared.pieces.Found.TheVariants.{Include, Pragma}
 use Rattle.c_lex.specs.declared.directives.Along.TheVariants.{Between}
 use Rattle.c_lex.specs.Bytes.{is_gap, is_letter, is_name_byte, is_line_byte}
@@ -51,16 +49,16 @@ directive_is src known at len e = ap (λ m. directive_named known (take m (drop 
 pub by_word : (src : List ℕ) (known : Meanings) (at : ℕ) (word : List ℕ) →
     directive_named known word (drop at src)
     ≡ cond (bytes_eq word (codes "include")) (Some (Include, 8 + run is_line_byte (drop (at + 7) src)))
-      (cond (bytes_eq word (codes "pragma")) (Some (Pragma, 7 + run is_line_byte (drop (at + 6) src)))
-      (cond (bytes_eq word (codes "define")) (define_at known (drop (at + 6) src)) None))
+    (cond (bytes_eq word (codes "pragma")) (Some (Pragma, 7 + run is_line_byte (drop (at + 6) src)))
+    (cond (bytes_eq word (codes "define")) (define_at known (drop (at + 6) src)) None))
 unfolding directive_named
 by_word src known at word =
     ap (λ l. cond (bytes_eq word (codes "include")) (Some (Include, 8 + run is_line_byte l))
-      (cond (bytes_eq word (codes "pragma")) (Some (Pragma, 7 + run is_line_byte (drop 6 (drop at src))))
-      (cond (bytes_eq word (codes "define")) (define_at known (drop 6 (drop at src))) None))) (drop-drop 7 at src)
+    (cond (bytes_eq word (codes "pragma")) (Some (Pragma, 7 + run is_line_byte (drop 6 (drop at src))))
+    (cond (bytes_eq word (codes "define")) (define_at known (drop 6 (drop at src))) None))) (drop-drop 7 at src)
     ∙ ap (λ l. cond (bytes_eq word (codes "include")) (Some (Include, 8 + run is_line_byte (drop (at + 7) src)))
-      (cond (bytes_eq word (codes "pragma")) (Some (Pragma, 7 + run is_line_byte l))
-      (cond (bytes_eq word (codes "define")) (define_at known l) None))) (drop-drop 6 at src)
+    (cond (bytes_eq word (codes "pragma")) (Some (Pragma, 7 + run is_line_byte l))
+    (cond (bytes_eq word (codes "define")) (define_at known l) None))) (drop-drop 6 at src)
 
 pub if_true : {A : Type 0} (b : Bool) (x y : A) → true ≡ b → cond b x y ≡ x
 if_true true x y e = refl

@@ -1,5 +1,5 @@
 -- What stands at a place is found at the front.
-use Rattle.std.proofs.Common.{◌≡◌, ℕ, zero, suc, ◌+◌, ◌-◌, ◌≤◌, ◌<◌, Bool, true, false, cond, not, ◌&&◌, ◌⊎◌, inl, inr, nat_eq, List, [], ◌∷◌, ◌++◌, length, take, drop, refl, sym, ap, ◌∙◌, subst, arith, append_assoc, length-append, Option, Some, None, codes}
+use Rattle.std.proofs.Common.{◌≡◌, ℕ, suc, ◌+◌, Bool, true, false, cond, not, ◌&&◌, inl, inr, nat_eq, List, [], ◌∷◌, ◌++◌, length, take, drop, refl, sym, ap, ◌∙◌, arith, append_assoc, length-append, Option, Some, None, codes}
 use Rattle.std.specs.Option.{option_map}
 use Rattle.std.specs.Ordering.{int_eq}
 use Rattle.std.proofs.lemmas.List.{take_at, drop_at}
@@ -13,10 +13,9 @@ use Rattle.c_lex.specs.declared.directives.Along.TheVariants.{Between}
 use Rattle.c_lex.specs.Bytes.{is_gap, is_letter, is_digit, is_name_byte, is_line_byte, AllAre, Begins, Stops}
 use Rattle.c_lex.specs.Defined.{Meanings}
 use Rattle.c_lex.specs.Directives.{IsWord, IsMarkedLine, IsDefine, Agrees, is_line_over}
-use Rattle.c_lex.specs.Words.{is_key, SpellsNumber, TextBody}
-use Rattle.c_lex.specs.Signs.{IsSign}
+use Rattle.c_lex.specs.Words.{is_key, SpellsNumber}
 use Rattle.c_lex.specs.Lexed.{State, Takes, IsLineComment, IsBlockComment, IsText, IsLongestSign, IsName, opens_comment}
-use Rattle.c_lex.specs.Front.{run, text_len, close_len, number_of, number_kind, name_kind, word_kind, sign_len, word_at, number_found, number_at, text_found, sign_found, comment_found, slash_at, agrees, bool_eq, starts, value_found, value_at, numbered, define_agreed, define_named, define_at, directive_named, directive_at, other_from, other_at, piece_from, piece_at}
+use Rattle.c_lex.specs.Front.{run, text_len, number_of, number_kind, name_kind, word_kind, sign_len, word_at, number_found, number_at, text_found, sign_found, comment_found, slash_at, agrees, bool_eq, starts, value_found, value_at, numbered, define_agreed, define_named, define_at, directive_named, directive_at, other_from, other_at, piece_from, piece_at}
 use Rattle.c_lex.proofs.Runs.{if_true, if_false, bool_cases, run_is, text_is, close_is}
 use Rattle.c_lex.proofs.NumberFacts.{number_spelt}
 use Rattle.c_lex.proofs.SignFacts.{is_clear, sign_clear, sign_is}

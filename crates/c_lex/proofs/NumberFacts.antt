@@ -1,7 +1,7 @@
 -- The number that is worked out for a word is the one that it spells.
-use Rattle.std.proofs.Common.{◌≡◌, ℕ, zero, suc, ◌+◌, ◌-◌, ◌*◌, ◌≤◌, ◌<◌, Bool, true, false, cond, ◌&&◌, ◌||◌, ◌⊎◌, inl, inr, nat_eq, nat_le, nat_lt, List, [], ◌∷◌, ◌++◌, length, get_or, take, drop, refl, sym, ap, ◌∙◌, subst, arith, append_assoc, length-append, Option, Some, None, pos}
+use Rattle.std.proofs.Common.{◌≡◌, ℕ, zero, suc, ◌+◌, ◌-◌, ◌*◌, ◌≤◌, ◌<◌, Bool, true, false, cond, ◌||◌, ◌⊎◌, inl, inr, nat_le, nat_lt, List, [], ◌∷◌, ◌++◌, length, get_or, take, drop, refl, sym, ap, ◌∙◌, subst, arith, length-append, Option, Some, None, pos}
 use Rattle.std.specs.Option.{option_map}
-use Rattle.std.proofs.lemmas.List.{append-nil, take_at, take_all, take_more, get_or_at, get_or_default}
+use Rattle.std.proofs.lemmas.List.{append-nil, take_at, take_all, take_more, get_or_at}
 use Rattle.std.proofs.lemmas.Bool.Decides.{nat_tests}
 use Rattle.c_lex.specs.declared.tokens.Literal.{Literal}
 use Rattle.c_lex.specs.Bytes.{is_digit, is_hex, AllAre, Begins}
@@ -33,8 +33,8 @@ module _ (test : ℕ → Bool) (r : ℕ) (worth : ℕ → ℕ) where
   numeral_digits n [] v le e = let h : n ≡ v = cc in record { all = tt; value = sym h; fits = omega arith }
   numeral_digits n (c ∷ cs) v le e = bool_cases (λ b. test c ≡ b → cond b (cond (nat_le (n * suc r + worth c) 9223372036854775807) (numeral_from test r worth (n * suc r + worth c) cs) None) None ≡ Some v → Digits n (c ∷ cs) v) (test c)
       (λ _ d g. bool_cases (λ b. nat_le (n * suc r + worth c) 9223372036854775807 ≡ b → cond b (numeral_from test r worth (n * suc r + worth c) cs) None ≡ Some v → Digits n (c ∷ cs) v) (nat_le (n * suc r + worth c) 9223372036854775807)
-        (λ _ t h. let small : n * suc r + worth c ≤ 9223372036854775807 = grind (arith, nat_tests) in let k = numeral_digits (n * suc r + worth c) cs v small h in record { all = (d, k.all); value = k.value; fits = k.fits })
-        (λ _ t h. cc) refl g)
+      (λ _ t h. let small : n * suc r + worth c ≤ 9223372036854775807 = grind (arith, nat_tests) in let k = numeral_digits (n * suc r + worth c) cs v small h in record { all = (d, k.all); value = k.value; fits = k.fits })
+      (λ _ t h. cc) refl g)
       (λ _ d h. cc) refl e
 
 -- numerals
@@ -144,13 +144,13 @@ last_apart (c ∷ cs) e =
 pub spells : (w : List ℕ) (number : Literal) → number_of w ≡ Some number → SpellsNumber w number
 spells w number e = bool_cases (λ b. is_suffixed w ≡ b → cond b (option_map (literal_of true) (numeral_of (take (length w - 1) w))) (option_map (literal_of false) (numeral_of w)) ≡ Some number → SpellsNumber w number) (is_suffixed w)
     (λ _ s g.
-      let m = map_some (literal_of true) (numeral_of (take (length w - 1) w)) number g in
-      let d = numeral_spelt (take (length w - 1) w) m.0 m.1 in
-      record { digits = take (length w - 1) w; suffix = get_or w (length w - 1) 0 ∷ []; suffixed = true; value = m.0; is = last_apart w s; ends = (s, refl); spelt = d.0; fits = d.1; worth = sym (ap (λ (x : Literal). x.value) m.2); size = sym (ap (λ (x : Literal). x.long) m.2) })
+    let m = map_some (literal_of true) (numeral_of (take (length w - 1) w)) number g in
+    let d = numeral_spelt (take (length w - 1) w) m.0 m.1 in
+    record { digits = take (length w - 1) w; suffix = get_or w (length w - 1) 0 ∷ []; suffixed = true; value = m.0; is = last_apart w s; ends = (s, refl); spelt = d.0; fits = d.1; worth = sym (ap (λ (x : Literal). x.value) m.2); size = sym (ap (λ (x : Literal). x.long) m.2) })
     (λ _ s g.
-      let m = map_some (literal_of false) (numeral_of w) number g in
-      let d = numeral_spelt w m.0 m.1 in
-      record { digits = w; suffix = []; suffixed = false; value = m.0; is = sym (append-nil w); ends = refl; spelt = d.0; fits = d.1; worth = sym (ap (λ (x : Literal). x.value) m.2); size = sym (ap (λ (x : Literal). x.long) m.2) })
+    let m = map_some (literal_of false) (numeral_of w) number g in
+    let d = numeral_spelt w m.0 m.1 in
+    record { digits = w; suffix = []; suffixed = false; value = m.0; is = sym (append-nil w); ends = refl; spelt = d.0; fits = d.1; worth = sym (ap (λ (x : Literal). x.value) m.2); size = sym (ap (λ (x : Literal). x.long) m.2) })
     refl e
 
 -- a number begins with a digit

@@ -1,7 +1,7 @@
 -- Runs of bytes, texts and comments: what is counted is what the relations say.
-use Rattle.std.proofs.Common.{◌≡◌, ℕ, zero, suc, ◌+◌, ◌-◌, ◌*◌, ◌≤◌, ◌<◌, Bool, true, false, cond, ◌&&◌, nat_eq, nat_le, nat_lt, List, [], ◌∷◌, ◌++◌, length, get_or, take, drop, refl, sym, ap, ◌∙◌, subst, arith, append_assoc, Option, Some, None}
+use Rattle.std.proofs.Common.{◌≡◌, ℕ, suc, ◌+◌, Bool, true, false, cond, ◌&&◌, nat_eq, List, [], ◌∷◌, ◌++◌, length, get_or, take, drop, refl, sym, ap, ◌∙◌, arith, Option, Some, None}
 use Rattle.std.proofs.lemmas.Bool.Decides.{nat_tests}
-use Rattle.c_lex.specs.Bytes.{is_plain, is_escape, AllAre, Begins, Stops}
+use Rattle.c_lex.specs.Bytes.{is_plain, is_escape, AllAre, Stops}
 use Rattle.c_lex.specs.Words.{TextBody}
 use Rattle.c_lex.specs.Words as words
 use Rattle.c_lex.specs.Front.{run, more, text_len, close_len}
@@ -108,10 +108,13 @@ close_behind star (c ∷ cs) rest h =
   where
     closes : NoClose (42 ∷ c ∷ cs) → nat_eq c 47 ≡ false
     closes k = bool_cases (λ b. nat_eq c 47 ≡ b → b ≡ false) (nat_eq c 47) (λ _ e. let same : c ≡ 47 = grind (arith, nat_tests) in absurd (k [] (cs ++ 42 ∷ []) (ap (λ x. 42 ∷ x ∷ (cs ++ 42 ∷ [])) same))) (λ _ e. refl) refl
+
     put : (a b : List ℕ) → (c ∷ cs) ++ 42 ∷ [] ≡ a ++ 42 ∷ 47 ∷ b → ⊥
     put a b is = bool_cases (λ t. NoClose (lead t (c ∷ cs)) → ⊥) star (λ _ k. k (42 ∷ a) b (ap (λ l. 42 ∷ l) is)) (λ _ k. k a b is) h
+
     starred : nat_eq c 42 ≡ true → (a b : List ℕ) → 42 ∷ (cs ++ 42 ∷ []) ≡ a ++ 42 ∷ 47 ∷ b → ⊥
     starred e a b is = let same : c ≡ 42 = grind (arith, nat_tests) in put a b (ap (λ x. x ∷ (cs ++ 42 ∷ [])) same ∙ is)
+
     plain : (a b : List ℕ) → cs ++ 42 ∷ [] ≡ a ++ 42 ∷ 47 ∷ b → ⊥
     plain a b is = put (c ∷ a) b (ap (λ l. c ∷ l) is)
 
@@ -146,21 +149,39 @@ close_ends star (c ∷ cs) n e = bool_cases (λ t. (star && nat_eq c 47) ≡ t �
     at_end : (star : Bool) → (star && nat_eq c 47) ≡ true → 1 ≡ n → Closes star (c ∷ cs) n
     at_end true t one = let same : c ≡ 47 = grind (arith, nat_tests) in record { body = []; rest = cs; is = ap (λ x. 42 ∷ x ∷ cs) same; len = omega arith; next = no_close_nil }
     at_end false t one = cc
+
     starred : (star : Bool) → nat_eq c 42 ≡ true → (m : ℕ) → n ≡ suc m → Closes true cs m → Closes star (c ∷ cs) n
     starred true e m len h =
         let same : c ≡ 42 = grind (arith, nat_tests) in
-        record { body = 42 ∷ h.body; rest = h.rest; is = ap (λ x. 42 ∷ x ∷ cs) same ∙ ap (λ l. 42 ∷ l) h.is; len = omega (arith, h.len, len);
-          next = no_close_more 42 h.body (47 ∷ h.rest) (λ x xs _ s q. let first : 42 ∷ cs ≡ x ∷ xs = h.is ∙ s in let f : 42 ≡ x = cc in absurd (omega arith)) h.next }
+        record {
+          body = 42 ∷ h.body;
+          rest = h.rest;
+          is = ap (λ x. 42 ∷ x ∷ cs) same ∙ ap (λ l. 42 ∷ l) h.is;
+          len = omega (arith, h.len, len);
+          next = no_close_more 42 h.body (47 ∷ h.rest) (λ x xs _ s q. let first : 42 ∷ cs ≡ x ∷ xs = h.is ∙ s in let f : 42 ≡ x = cc in absurd (omega arith)) h.next;
+        }
     starred false e m len h =
         let same : c ≡ 42 = grind (arith, nat_tests) in
         record { body = h.body; rest = h.rest; is = ap (λ x. x ∷ cs) same ∙ h.is; len = omega (arith, h.len, len); next = h.next }
+
     plain : (star : Bool) → (star && nat_eq c 47) ≡ false → nat_eq c 42 ≡ false → (m : ℕ) → n ≡ suc m → Closes false cs m → Closes star (c ∷ cs) n
     plain true t e m len h =
         let inner : NoClose (c ∷ h.body) = no_close_more c h.body (47 ∷ h.rest) (λ x xs q _ _. absurd (let k : nat_eq c 42 ≡ true = grind (arith, nat_tests) in let w : true ≡ false = sym k ∙ e in cc)) h.next in
-        record { body = 42 ∷ c ∷ h.body; rest = h.rest; is = ap (λ l. 42 ∷ c ∷ l) h.is; len = omega (arith, h.len, len);
-          next = no_close_more 42 (c ∷ h.body) (47 ∷ h.rest) (λ x xs _ s q. let f : c ≡ x = cc in let k : nat_eq c 47 ≡ true = grind (arith, nat_tests) in let w : true ≡ false = sym k ∙ t in cc) inner }
+        record {
+          body = 42 ∷ c ∷ h.body;
+          rest = h.rest;
+          is = ap (λ l. 42 ∷ c ∷ l) h.is;
+          len = omega (arith, h.len, len);
+          next = no_close_more 42 (c ∷ h.body) (47 ∷ h.rest) (λ x xs _ s q. let f : c ≡ x = cc in let k : nat_eq c 47 ≡ true = grind (arith, nat_tests) in let w : true ≡ false = sym k ∙ t in cc) inner;
+        }
     plain false t e m len h =
-        record { body = c ∷ h.body; rest = h.rest; is = ap (λ l. c ∷ l) h.is; len = omega (arith, h.len, len);
-          next = no_close_more c h.body (47 ∷ h.rest) (λ x xs q _ _. absurd (let k : nat_eq c 42 ≡ true = grind (arith, nat_tests) in let w : true ≡ false = sym k ∙ e in cc)) h.next }
+        record {
+          body = c ∷ h.body;
+          rest = h.rest;
+          is = ap (λ l. c ∷ l) h.is;
+          len = omega (arith, h.len, len);
+          next = no_close_more c h.body (47 ∷ h.rest) (λ x xs q _ _. absurd (let k : nat_eq c 42 ≡ true = grind (arith, nat_tests) in let w : true ≡ false = sym k ∙ e in cc)) h.next;
+        }
+
     on : (star : Bool) → (star && nat_eq c 47) ≡ false → (m : ℕ) → n ≡ suc m → Closes (nat_eq c 42) cs m → Closes star (c ∷ cs) n
     on star t m len h = bool_cases (λ b. nat_eq c 42 ≡ b → Closes b cs m → Closes star (c ∷ cs) n) (nat_eq c 42) (λ _ q k. starred star q m len k) (λ _ q k. plain star t q m len k) refl h

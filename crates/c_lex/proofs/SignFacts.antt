@@ -1,6 +1,6 @@
 -- The sign whose length is worked out is the longest one that stands there.
-use Rattle.std.proofs.Common.{◌≡◌, ℕ, zero, suc, ◌+◌, ◌≤◌, ◌<◌, Bool, true, false, cond, not, ◌&&◌, ◌||◌, nat_eq, List, [], ◌∷◌, ◌++◌, length, refl, sym, ap, ◌∙◌, subst, arith, codes}
-use Rattle.std.specs.List.{list_any, list_all}
+use Rattle.std.proofs.Common.{◌≡◌, ℕ, suc, ◌≤◌, Bool, true, false, cond, not, ◌&&◌, ◌||◌, nat_eq, List, [], ◌∷◌, ◌++◌, length, refl, sym, ap, ◌∙◌, subst, arith, codes}
+use Rattle.std.specs.List.{list_all}
 use Rattle.std.proofs.lemmas.Bool.Decides.{nat_tests}
 use Rattle.c_lex.specs.Bytes.{is_gap, is_letter, is_digit}
 use Rattle.c_lex.specs.Signs.{is_in, is_one, is_twice, is_with_equals, is_two, is_three, IsSign}
@@ -116,8 +116,8 @@ two_stands : (c d n : ℕ) (cs : List ℕ) → ((e : ℕ) (es : List ℕ) → cs
 two_stands c d n cs three e = bool_cases (λ b. is_two c d ≡ b → cond b 2 (cond (is_one c) 1 0) ≡ suc n → FrontSign (c ∷ d ∷ cs) n) (is_two c d)
     (λ _ s g. record { word = c ∷ d ∷ []; rest = cs; is = refl; len = g; sign = s; longest = at_most_two c d cs three })
     (λ _ s g. one_stands c n (d ∷ cs)
-      (λ x xs is. let q : d ≡ x = cc in ap (is_two c) (sym q) ∙ s)
-      (λ x y ys is. let q : d ≡ x = cc in let r : cs ≡ y ∷ ys = cc in ap (λ x. is_three c x y) (sym q) ∙ three y ys r) g)
+    (λ x xs is. let q : d ≡ x = cc in ap (is_two c) (sym q) ∙ s)
+    (λ x y ys is. let q : d ≡ x = cc in let r : cs ≡ y ∷ ys = cc in ap (λ x. is_three c x y) (sym q) ∙ three y ys r) g)
     refl e
 
 pub sign_stands : (bytes : List ℕ) (n : ℕ) → sign_len bytes ≡ suc n → FrontSign bytes n

@@ -1,9 +1,8 @@
 -- What is found at the front stands there.
-use Rattle.std.proofs.Common.{◌≡◌, ℕ, zero, suc, ◌+◌, ◌-◌, ◌≤◌, ◌<◌, Bool, true, false, cond, not, ◌&&◌, ◌||◌, ◌⊎◌, inl, inr, nat_eq, List, [], ◌∷◌, ◌++◌, length, take, drop, refl, sym, ap, ◌∙◌, subst, arith, append_assoc, length-append, Option, Some, None, codes}
+use Rattle.std.proofs.Common.{◌≡◌, ℕ, zero, suc, ◌+◌, ◌<◌, Bool, true, false, cond, not, ◌&&◌, ◌||◌, inl, inr, nat_eq, List, [], ◌∷◌, ◌++◌, length, take, drop, refl, sym, ap, ◌∙◌, subst, arith, append_assoc, length-append, Option, Some, None, codes}
 use Rattle.std.specs.Option.{option_map}
 use Rattle.std.specs.Ordering.{int_eq}
 use Rattle.std.specs.Str.{bytes_eq}
-use Rattle.std.proofs.lemmas.List.{take_at, drop_at}
 use Rattle.std.proofs.lemmas.Slice.Eq.{bytes_eq-Decides}
 use Rattle.std.proofs.lemmas.Bool.Decides.{nat_tests, Decides-int_eq}
 use Rattle.c_lex.specs.declared.tokens.Kind.{Kind}
@@ -14,14 +13,13 @@ use Rattle.c_lex.specs.declared.pieces.Found.TheVariants.{Feed, Blank, Comment, 
 use Rattle.c_lex.specs.declared.directives.Along.TheVariants.{Between}
 use Rattle.c_lex.specs.Bytes.{is_gap, is_letter, is_digit, is_name_byte, is_line_byte, AllAre, Begins, Stops}
 use Rattle.c_lex.specs.Defined.{Meanings}
-use Rattle.c_lex.specs.Directives.{IsWord, IsMarkedLine, IsDefine, Agrees, is_line_over}
-use Rattle.c_lex.specs.Words.{is_key, SpellsNumber, TextBody}
-use Rattle.c_lex.specs.Signs.{IsSign}
-use Rattle.c_lex.specs.Lexed.{State, Takes, IsLineComment, IsBlockComment, IsText, IsLongestSign, IsName, NoPiece, opens_comment}
-use Rattle.c_lex.specs.Front.{run, text_len, close_len, number_of, number_kind, name_kind, word_kind, sign_len, word_at, number_found, number_at, text_found, sign_found, comment_found, slash_at, agrees, bool_eq, starts, value_found, value_at, numbered, define_agreed, define_named, define_at, directive_named, directive_at, other_from, other_at, piece_from, piece_at}
-use Rattle.c_lex.proofs.Runs.{if_true, if_false, bool_cases, Cut, cut, Ends, text_ends, Closes, close_ends}
+use Rattle.c_lex.specs.Directives.{IsWord, Agrees, is_line_over}
+use Rattle.c_lex.specs.Words.{is_key, SpellsNumber}
+use Rattle.c_lex.specs.Lexed.{State, Takes, NoPiece, opens_comment}
+use Rattle.c_lex.specs.Front.{run, text_len, close_len, number_of, number_kind, name_kind, sign_len, word_at, number_found, number_at, text_found, sign_found, comment_found, slash_at, agrees, bool_eq, starts, value_found, value_at, numbered, define_agreed, define_named, define_at, directive_named, directive_at, other_from, other_at, piece_from, piece_at}
+use Rattle.c_lex.proofs.Runs.{if_true, bool_cases, cut, text_ends, close_ends}
 use Rattle.c_lex.proofs.NumberFacts.{spells, spells_begins, map_some}
-use Rattle.c_lex.proofs.SignFacts.{FrontSign, sign_stands, and_parts}
+use Rattle.c_lex.proofs.SignFacts.{sign_stands, and_parts}
 use Rattle.c_lex.proofs.Fronts.{front_is}
 
 pub record Stands (s : State) (bytes : List ℕ) (f : Found) (n : ℕ) : Type 0 where
@@ -63,8 +61,8 @@ module _ (s : State) where
       let rest : List ℕ = drop (run is_name_byte (c ∷ cs)) (c ∷ cs) in
       let made : (k : Kind) → Takes s (Taken k) word rest → Stands s (c ∷ cs) (Taken k) (run is_name_byte (c ∷ cs)) = λ k t. record { word = word; rest = rest; is = h.is; len = h.len; some = w.1; takes = t } in
       move (bool_cases (λ b. is_key word ≡ b → Stands s (c ∷ cs) (Taken (cond b kind.Key (name_kind (s.known word)))) (run is_name_byte (c ∷ cs))) (is_key word)
-        (λ _ k. made kind.Key (w.0, k))
-        (λ _ k. by_meaning word rest made k w.0 (s.known word) refl) refl) g
+      (λ _ k. made kind.Key (w.0, k))
+      (λ _ k. by_meaning word rest made k w.0 (s.known word) refl) refl) g
     where
       by_meaning : (word rest : List ℕ) → ((k : Kind) → Takes s (Taken k) word rest → Stands s (c ∷ cs) (Taken k) (run is_name_byte (c ∷ cs))) → is_key word ≡ false → IsWord is_letter word rest → (o : Option Literal) → s.known word ≡ o → Stands s (c ∷ cs) (Taken (name_kind o)) (run is_name_byte (c ∷ cs))
       by_meaning word rest made k w None m = made kind.Name (record { spelt = w; no_key = k; means = m })
@@ -90,7 +88,7 @@ module _ (s : State) where
         is = ap (λ x. x ∷ cs) e ∙ (ap (λ l. 34 ∷ l) t.is ∙ simp append_assoc);
         len = ap suc (simp length-append (omega (arith, t.len)));
         some = omega arith;
-        takes = record { body = t.body; is = refl; holds = t.holds }
+        takes = record { body = t.body; is = refl; holds = t.holds };
       } in
       move stands (ap (λ (x : Found × ℕ). Some x) m.2)
 
@@ -109,7 +107,7 @@ module _ (s : State) where
         is = ap (λ c. c ∷ d ∷ ds) e ∙ (ap (λ d. 47 ∷ d ∷ ds) g ∙ ap (λ l. 47 ∷ 47 ∷ l) h.is);
         len = omega (arith, h.len);
         some = omega arith;
-        takes = inl (record { line = take (run is_line_byte ds) ds; is = refl; all = h.all; stops = h.stops })
+        takes = inl (record { line = take (run is_line_byte ds) ds; is = refl; all = h.all; stops = h.stops });
       }
 
   stands_block : (c : ℕ) (ds : List ℕ) → c ≡ 47 → (d : ℕ) → d ≡ 42 → (n : ℕ) → close_len false ds ≡ Some n → Stands s (c ∷ d ∷ ds) Comment (2 + n)
@@ -121,7 +119,7 @@ module _ (s : State) where
         is = ap (λ c. c ∷ d ∷ ds) e ∙ (ap (λ d. 47 ∷ d ∷ ds) g ∙ (ap (λ l. 47 ∷ 42 ∷ l) h.is ∙ simp append_assoc));
         len = simp length-append (omega (arith, h.len));
         some = omega arith;
-        takes = inr (record { body = h.body; is = refl; next = h.next })
+        takes = inr (record { body = h.body; is = refl; next = h.next });
       }
 
   stands_slash : (c : ℕ) (cs : List ℕ) (f : Found) (n : ℕ) → c ≡ 47 → slash_at c cs ≡ Some (f, n) → Stands s (c ∷ cs) f n
@@ -130,9 +128,9 @@ module _ (s : State) where
   stands_slash c (d ∷ ds) f n e g = bool_cases (λ b. nat_eq d 47 ≡ b → cond b (Some (Comment, 2 + run is_line_byte ds)) (cond (nat_eq d 42) (option_map comment_found (close_len false ds)) (sign_found (sign_len (c ∷ d ∷ ds)))) ≡ Some (f, n) → Stands s (c ∷ d ∷ ds) f n) (nat_eq d 47)
       (λ _ t h. let q : d ≡ 47 = grind (arith, nat_tests) in move (stands_line c ds e d q) h)
       (λ _ t h. bool_cases (λ b. nat_eq d 42 ≡ b → cond b (option_map comment_found (close_len false ds)) (sign_found (sign_len (c ∷ d ∷ ds))) ≡ Some (f, n) → Stands s (c ∷ d ∷ ds) f n) (nat_eq d 42)
-        (λ _ u i. let q : d ≡ 42 = grind (arith, nat_tests) in let m = map_some comment_found (close_len false ds) (f, n) i in move (stands_block c ds e d q m.0 m.1) (ap (λ (x : Found × ℕ). Some x) m.2))
-        (λ _ u i. let o : (nat_eq c 47 && (nat_eq d 47 || nat_eq d 42)) ≡ false = ap (λ b. nat_eq c 47 && (b || nat_eq d 42)) t ∙ (ap (λ b. nat_eq c 47 && b) u ∙ and_false (nat_eq c 47)) in stands_sign c (d ∷ ds) f n o (sign_len (c ∷ d ∷ ds)) refl i)
-        refl h)
+      (λ _ u i. let q : d ≡ 42 = grind (arith, nat_tests) in let m = map_some comment_found (close_len false ds) (f, n) i in move (stands_block c ds e d q m.0 m.1) (ap (λ (x : Found × ℕ). Some x) m.2))
+      (λ _ u i. let o : (nat_eq c 47 && (nat_eq d 47 || nat_eq d 42)) ≡ false = ap (λ b. nat_eq c 47 && (b || nat_eq d 42)) t ∙ (ap (λ b. nat_eq c 47 && b) u ∙ and_false (nat_eq c 47)) in stands_sign c (d ∷ ds) f n o (sign_len (c ∷ d ∷ ds)) refl i)
+      refl h)
       refl g
     where
       and_false : (b : Bool) → (b && false) ≡ false
@@ -173,11 +171,11 @@ value_stands space rest n len blank number k e =
     let word : List ℕ = take (run is_name_byte rest) rest in
     bool_cases (λ b. is_line_over Between (drop (run is_name_byte rest) rest) ≡ b → cond b (option_map (value_found (n + run is_name_byte rest)) (number_of word)) None ≡ Some (number, k) → Value (space ++ rest) number k) (is_line_over Between (drop (run is_name_byte rest) rest))
     (λ _ over g.
-      let m = map_some (value_found (n + run is_name_byte rest)) (number_of word) (number, k) g in
-      let same : m.0 ≡ number = ap (λ (x : Literal × ℕ). x.0) m.2 in
-      let size : n + run is_name_byte rest ≡ k = ap (λ (x : Literal × ℕ). x.1) m.2 in
-      let sp : SpellsNumber word number = subst (SpellsNumber word) same (spells word m.0 m.1) in
-      record { space = space; digits = word; rest = drop (run is_name_byte rest) rest; is = ap (λ l. space ++ l) h.is; blank = blank; spelt = record { begins = spells_begins word number sp; all = h.all; stops = h.stops }; spells = sp; over = over; len = omega (arith, len, h.len, size) })
+    let m = map_some (value_found (n + run is_name_byte rest)) (number_of word) (number, k) g in
+    let same : m.0 ≡ number = ap (λ (x : Literal × ℕ). x.0) m.2 in
+    let size : n + run is_name_byte rest ≡ k = ap (λ (x : Literal × ℕ). x.1) m.2 in
+    let sp : SpellsNumber word number = subst (SpellsNumber word) same (spells word m.0 m.1) in
+    record { space = space; digits = word; rest = drop (run is_name_byte rest) rest; is = ap (λ l. space ++ l) h.is; blank = blank; spelt = record { begins = spells_begins word number sp; all = h.all; stops = h.stops }; spells = sp; over = over; len = omega (arith, len, h.len, size) })
     (λ _ over g. cc) refl e
 
 numbered_stands : (bytes : List ℕ) (number : Literal) (k : ℕ) → numbered bytes ≡ Some (number, k) → Value bytes number k
@@ -214,27 +212,39 @@ module _ (s : State) (fresh : s.fresh ≡ true) where
       let name : List ℕ = take m bytes in
       bool_cases (λ b. (starts is_letter bytes && not (is_key name)) ≡ b → cond b (define_agreed s.known g name m (numbered (drop m bytes))) None ≡ Some (f, n) → Stands s (35 ∷ (codes "define" ++ (gap ++ bytes))) f n) (starts is_letter bytes && not (is_key name))
       (λ _ t q.
-        let parts = and_parts (starts is_letter bytes) (not (is_key name)) t in
-        let w = word_cut is_letter letter_name bytes parts.0 in
-        let a = agreed_some s.known g name m (numbered (drop m bytes)) f n q in
-        let v = numbered_stands (drop m bytes) a.number a.k a.is in
-        let tail : bytes ≡ name ++ (v.space ++ (v.digits ++ v.rest)) = h.is ∙ ap (λ l. name ++ l) v.is in
-        subst (λ f. Stands s (35 ∷ (codes "define" ++ (gap ++ bytes))) f n) a.found (record {
-          word = 35 ∷ (codes "define" ++ (gap ++ (name ++ (v.space ++ v.digits))));
-          rest = v.rest;
-          is = ap (λ l. 35 ∷ (codes "define" ++ (gap ++ l))) tail ∙ simp append_assoc;
-          len = simp length-append (omega (arith, len, h.len, v.len, a.size));
-          some = omega (arith, a.size);
-          takes = (fresh, record {
-            gap = gap; name = name; space = v.space; digits = v.digits; is = refl; gap_blank = blank;
+      let parts = and_parts (starts is_letter bytes) (not (is_key name)) t in
+      let w = word_cut is_letter letter_name bytes parts.0 in
+      let a = agreed_some s.known g name m (numbered (drop m bytes)) f n q in
+      let v = numbered_stands (drop m bytes) a.number a.k a.is in
+      let tail : bytes ≡ name ++ (v.space ++ (v.digits ++ v.rest)) = h.is ∙ ap (λ l. name ++ l) v.is in
+      subst (λ f. Stands s (35 ∷ (codes "define" ++ (gap ++ bytes))) f n) a.found (record {
+        word = 35 ∷ (codes "define" ++ (gap ++ (name ++ (v.space ++ v.digits))));
+        rest = v.rest;
+        is = ap (λ l. 35 ∷ (codes "define" ++ (gap ++ l))) tail ∙ simp append_assoc;
+        len = simp length-append (omega (arith, len, h.len, v.len, a.size));
+        some = omega (arith, a.size);
+        takes = (
+          fresh,
+          record {
+            gap = gap;
+            name = name;
+            space = v.space;
+            digits = v.digits;
+            is = refl;
+            gap_blank = blank;
             whole = subst (λ l. Stops is_name_byte (gap ++ l)) tail whole;
             named = subst (IsWord is_letter name) v.is w.0;
             no_key = not_is (is_key name) parts.1;
-            space_blank = v.blank; spelt = v.spelt; spells = v.spells; agrees = a.agrees; over = v.over;
+            space_blank = v.blank;
+            spelt = v.spelt;
+            spells = v.spells;
+            agrees = a.agrees;
+            over = v.over;
             begins = ap (λ (x : ℕ). 7 + x) (sym len);
             ends = sym h.len;
-          });
-        }))
+          },
+        );
+      }))
       (λ _ t q. cc) refl e
 
   stands_define : (bytes : List ℕ) (f : Found) (n : ℕ) → Stops is_name_byte bytes → define_at s.known bytes ≡ Some (f, n) → Stands s (35 ∷ (codes "define" ++ bytes)) f n
@@ -282,11 +292,11 @@ module _ (s : State) (fresh : s.fresh ≡ true) where
       bool_cases (λ b. bytes_eq word (codes "include") ≡ b → cond b (Some (Include, 8 + run is_line_byte (drop 7 cs))) (cond (bytes_eq word (codes "pragma")) (Some (Pragma, 7 + run is_line_byte (drop 6 cs))) (cond (bytes_eq word (codes "define")) (define_at s.known (drop 6 cs)) None)) ≡ Some (f, n) → Stands s (35 ∷ cs) f n) (bytes_eq word (codes "include"))
       (λ _ t g. let is = word_is cs (codes "include") t in move (subst (λ l. Stands s (35 ∷ l) Include (8 + run is_line_byte tail)) (sym is) (stands_include tail stops)) (ap (λ l. Some (Include, 8 + run is_line_byte (drop 7 l))) (sym is) ∙ g))
       (λ _ t g. bool_cases (λ b. bytes_eq word (codes "pragma") ≡ b → cond b (Some (Pragma, 7 + run is_line_byte (drop 6 cs))) (cond (bytes_eq word (codes "define")) (define_at s.known (drop 6 cs)) None) ≡ Some (f, n) → Stands s (35 ∷ cs) f n) (bytes_eq word (codes "pragma"))
-        (λ _ u h. let is = word_is cs (codes "pragma") u in move (subst (λ l. Stands s (35 ∷ l) Pragma (7 + run is_line_byte tail)) (sym is) (stands_pragma tail stops)) (ap (λ l. Some (Pragma, 7 + run is_line_byte (drop 6 l))) (sym is) ∙ h))
-        (λ _ u h. bool_cases (λ b. bytes_eq word (codes "define") ≡ b → cond b (define_at s.known (drop 6 cs)) None ≡ Some (f, n) → Stands s (35 ∷ cs) f n) (bytes_eq word (codes "define"))
-          (λ _ v i. let is = word_is cs (codes "define") v in subst (λ l. Stands s (35 ∷ l) f n) (sym is) (stands_define tail f n stops (ap (λ l. define_at s.known (drop 6 l)) (sym is) ∙ i)))
-          (λ _ v i. cc) refl h)
-        refl g)
+      (λ _ u h. let is = word_is cs (codes "pragma") u in move (subst (λ l. Stands s (35 ∷ l) Pragma (7 + run is_line_byte tail)) (sym is) (stands_pragma tail stops)) (ap (λ l. Some (Pragma, 7 + run is_line_byte (drop 6 l))) (sym is) ∙ h))
+      (λ _ u h. bool_cases (λ b. bytes_eq word (codes "define") ≡ b → cond b (define_at s.known (drop 6 cs)) None ≡ Some (f, n) → Stands s (35 ∷ cs) f n) (bytes_eq word (codes "define"))
+      (λ _ v i. let is = word_is cs (codes "define") v in subst (λ l. Stands s (35 ∷ l) f n) (sym is) (stands_define tail f n stops (ap (λ l. define_at s.known (drop 6 l)) (sym is) ∙ i)))
+      (λ _ v i. cc) refl h)
+      refl g)
       refl e
 
 -- the piece
@@ -303,12 +313,12 @@ module _ (s : State) where
       bool_cases (λ b. nat_eq c 34 ≡ b → cond b (option_map text_found (text_len false cs)) (cond (nat_eq c 35) (cond s.fresh (directive_at s.known cs) None) (cond (nat_eq c 47) (slash_at c cs) (sign_found (sign_len (c ∷ cs))))) ≡ Some (f, n) → Stands s (c ∷ cs) f n) (nat_eq c 34)
       (λ _ t g. let q : c ≡ 34 = grind (arith, nat_tests) in stands_text s c cs f n q g)
       (λ _ t g. bool_cases (λ b. nat_eq c 35 ≡ b → cond b (cond s.fresh (directive_at s.known cs) None) (cond (nat_eq c 47) (slash_at c cs) (sign_found (sign_len (c ∷ cs)))) ≡ Some (f, n) → Stands s (c ∷ cs) f n) (nat_eq c 35)
-        (λ _ u h. let q : c ≡ 35 = grind (arith, nat_tests) in stands_hash c cs f n q h)
-        (λ _ u h. bool_cases (λ b. nat_eq c 47 ≡ b → cond b (slash_at c cs) (sign_found (sign_len (c ∷ cs))) ≡ Some (f, n) → Stands s (c ∷ cs) f n) (nat_eq c 47)
-          (λ _ v i. let q : c ≡ 47 = grind (arith, nat_tests) in stands_slash s c cs f n q i)
-          (λ _ v i. stands_sign s c cs f n (no_opening c cs v) (sign_len (c ∷ cs)) refl i)
-          refl h)
-        refl g)
+      (λ _ u h. let q : c ≡ 35 = grind (arith, nat_tests) in stands_hash c cs f n q h)
+      (λ _ u h. bool_cases (λ b. nat_eq c 47 ≡ b → cond b (slash_at c cs) (sign_found (sign_len (c ∷ cs))) ≡ Some (f, n) → Stands s (c ∷ cs) f n) (nat_eq c 47)
+      (λ _ v i. let q : c ≡ 47 = grind (arith, nat_tests) in stands_slash s c cs f n q i)
+      (λ _ v i. stands_sign s c cs f n (no_opening c cs v) (sign_len (c ∷ cs)) refl i)
+      refl h)
+      refl g)
       refl e
     where
       no_opening : (c : ℕ) (cs : List ℕ) → nat_eq c 47 ≡ false → opens_comment (c ∷ cs) ≡ false
@@ -321,15 +331,15 @@ module _ (s : State) where
       bool_cases (λ b. nat_eq c 10 ≡ b → cond b (Some (Feed, 1)) (cond (is_gap c) (Some (Blank, 1)) (cond (is_letter c) (word_at s.known (c ∷ cs)) (cond (is_digit c) (number_at (c ∷ cs)) (other_at s.fresh s.known (c ∷ cs))))) ≡ Some (f, n) → Stands s (c ∷ cs) f n) (nat_eq c 10)
       (λ _ t g. let q : c ≡ 10 = grind (arith, nat_tests) in move (record { word = c ∷ []; rest = cs; is = refl; len = refl; some = omega arith; takes = ap (λ c. c ∷ []) q }) g)
       (λ _ t g. bool_cases (λ b. is_gap c ≡ b → cond b (Some (Blank, 1)) (cond (is_letter c) (word_at s.known (c ∷ cs)) (cond (is_digit c) (number_at (c ∷ cs)) (other_at s.fresh s.known (c ∷ cs)))) ≡ Some (f, n) → Stands s (c ∷ cs) f n) (is_gap c)
-        (λ _ b h. move (record { word = c ∷ []; rest = cs; is = refl; len = refl; some = omega arith; takes = (c, refl, b) }) h)
-        (λ _ b h. bool_cases (λ b. is_letter c ≡ b → cond b (word_at s.known (c ∷ cs)) (cond (is_digit c) (number_at (c ∷ cs)) (other_at s.fresh s.known (c ∷ cs))) ≡ Some (f, n) → Stands s (c ∷ cs) f n) (is_letter c)
-          (λ _ l i. stands_word s c cs f n l i)
-          (λ _ l i. bool_cases (λ b. is_digit c ≡ b → cond b (number_at (c ∷ cs)) (other_at s.fresh s.known (c ∷ cs)) ≡ Some (f, n) → Stands s (c ∷ cs) f n) (is_digit c)
-            (λ _ d j. stands_number s c cs f n d j)
-            (λ _ d j. stands_other c cs f n j)
-            refl i)
-          refl h)
-        refl g)
+      (λ _ b h. move (record { word = c ∷ []; rest = cs; is = refl; len = refl; some = omega arith; takes = (c, refl, b) }) h)
+      (λ _ b h. bool_cases (λ b. is_letter c ≡ b → cond b (word_at s.known (c ∷ cs)) (cond (is_digit c) (number_at (c ∷ cs)) (other_at s.fresh s.known (c ∷ cs))) ≡ Some (f, n) → Stands s (c ∷ cs) f n) (is_letter c)
+      (λ _ l i. stands_word s c cs f n l i)
+      (λ _ l i. bool_cases (λ b. is_digit c ≡ b → cond b (number_at (c ∷ cs)) (other_at s.fresh s.known (c ∷ cs)) ≡ Some (f, n) → Stands s (c ∷ cs) f n) (is_digit c)
+      (λ _ d j. stands_number s c cs f n d j)
+      (λ _ d j. stands_other c cs f n j)
+      refl i)
+      refl h)
+      refl g)
       refl e
 
 pub front_stands : (s : State) (bytes : List ℕ) (f : Found) (n : ℕ) → piece_at s.fresh s.known bytes ≡ Some (f, n) → Stands s bytes f n

@@ -1,8 +1,7 @@
 -- One step of the scan: from the place before a piece to the place behind it.
-use Rattle.std.proofs.Common.{◌≡◌, ℕ, suc, ◌+◌, ◌-◌, ◌≤◌, ◌<◌, Bool, false, cond, nat_eq, Result, Ok, Err, OnOk, List, [], ◌∷◌, ◌++◌, length, get_or, take, drop, refl, sym, ap, ◌∙◌, subst, arith, append_assoc, length-append, length-drop, Option, Some, None, codes}
+use Rattle.std.proofs.Common.{◌≡◌, ℕ, ◌+◌, ◌-◌, ◌≤◌, ◌<◌, false, cond, nat_eq, Result, Ok, Err, OnOk, List, [], ◌∷◌, ◌++◌, length, get_or, take, drop, refl, sym, ap, ◌∙◌, subst, arith, append_assoc, length-append, length-drop, Some, None, codes}
 use Rattle.std.specs.Result.{is_err}
 use Rattle.std.proofs.lemmas.List.{take_at, drop_at, drop-drop, drop_more, drop_all, take-append-le, drop-append-le, append-nil}
-use Rattle.c_lex.specs.declared.tokens.Kind.{Kind}
 use Rattle.c_lex.specs.declared.tokens.Kind.TheVariants as kind
 use Rattle.c_lex.specs.declared.tokens.Literal.{Literal}
 use Rattle.c_lex.specs.declared.tokens.Token.{Token}
@@ -10,14 +9,14 @@ use Rattle.c_lex.specs.declared.tokens.LexRefusal.{LexRefusal}
 use Rattle.c_lex.specs.declared.places.Place.{Place}
 use Rattle.c_lex.specs.declared.pieces.Found.{Found}
 use Rattle.c_lex.specs.declared.pieces.Found.TheVariants.{Feed, Blank, Comment, Include, Define, Pragma, Taken}
-use Rattle.c_lex.specs.Defined.{Meanings, with_name}
+use Rattle.c_lex.specs.Defined.{with_name}
 use Rattle.c_lex.specs.Places.{behind, behind_byte}
 use Rattle.c_lex.specs.Lexed.{State, beginning, Takes, NoPiece, Pieces, Refuses, behind_piece, fresh_behind, known_behind, given, token_at}
 use Rattle.c_lex.specs.Lexed as lexed
 use Rattle.c_lex.specs.Front.{piece_at}
 use Rattle.c_lex.specs.Stops.{kept, known_from, IsWithin}
 use Rattle.c_lex.proofs.Runs.{bool_cases}
-use Rattle.c_lex.proofs.Stands.{Stands, front_stands, front_none}
+use Rattle.c_lex.proofs.Stands.{front_stands, front_none}
 use Rattle.c_lex.proofs.Ordered.{at_behind, marked_long}
 
 -- the piece that is found at a place of the source
@@ -145,8 +144,8 @@ small_behind : (p : Place) (bytes : List ℕ) → p.line ≤ p.at + 1 → p.col 
 small_behind p [] l c = (l, c)
 small_behind p (b ∷ bs) l c =
     small_behind (behind_byte p b) bs
-      (bool_cases (λ t. cond t (p.line + 1) p.line ≤ p.at + 1 + 1) (nat_eq b 10) (λ _. omega arith) (λ _. omega arith))
-      (bool_cases (λ t. cond t 1 (p.col + 1) ≤ p.at + 1 + 1) (nat_eq b 10) (λ _. omega arith) (λ _. omega arith))
+    (bool_cases (λ t. cond t (p.line + 1) p.line ≤ p.at + 1 + 1) (nat_eq b 10) (λ _. omega arith) (λ _. omega arith))
+    (bool_cases (λ t. cond t 1 (p.col + 1) ≤ p.at + 1 + 1) (nat_eq b 10) (λ _. omega arith) (λ _. omega arith))
 
 pub small_place : (p q : Place) (bytes : List ℕ) → q ≡ behind p bytes → p.line ≤ p.at + 1 → p.col ≤ p.at + 1 → (q.line ≤ q.at + 1) × (q.col ≤ q.at + 1)
 small_place p q bytes e l c = subst (λ (q : Place). (q.line ≤ q.at + 1) × (q.col ≤ q.at + 1)) (sym e) (small_behind p bytes l c)

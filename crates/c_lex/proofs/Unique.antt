@@ -8,7 +8,7 @@ use Rattle.c_lex.specs.Lexed.{State, Takes, NoPiece, Pieces, Refuses, behind_pie
 use Rattle.c_lex.specs.Lexed as lexed
 use Rattle.c_lex.specs.Front.{piece_at}
 use Rattle.c_lex.proofs.Fronts.{front_is}
-use Rattle.c_lex.proofs.Stands.{Stands, front_stands}
+use Rattle.c_lex.proofs.Stands.{front_stands}
 
 -- the tokens of bytes, by what is found at their front
 abbrev View : State → List ℕ → Option (Found × ℕ) → List Token → Type 0
@@ -38,7 +38,7 @@ view (lexed.piece {s} {bytes} {ts} f word rest us is t e h) =
     let w = word_front bytes word rest is in
     let d = word_behind bytes word rest is in
     subst (λ o. View s bytes o ts) (sym (found s f bytes word rest is t))
-      (us, e ∙ ap (λ w. given s f w ++ us) (sym w), subst (λ l. Pieces (behind_piece s f (take (length word) bytes)) l us) (sym d) (subst (λ w. Pieces (behind_piece s f w) rest us) (sym w) h))
+    (us, e ∙ ap (λ w. given s f w ++ us) (sym w), subst (λ l. Pieces (behind_piece s f (take (length word) bytes)) l us) (sym d) (subst (λ w. Pieces (behind_piece s f w) rest us) (sym w) h))
 
 -- the tokens of bytes at whose front a piece stands
 begun : (s : State) (f : Found) (bytes word rest : List ℕ) (ts : List Token) → bytes ≡ word ++ rest → Takes s f word rest → Pieces s bytes ts → (us : List Token) × (ts ≡ given s f word ++ us) × Pieces (behind_piece s f word) rest us

@@ -1,5 +1,5 @@
 -- The names that are defined at a place, with their numbers.
-use Rattle.std.specs.Prelude.{ℕ, Bool, cond, List, Option, Some, None}
+use Rattle.std.specs.Prelude.{ℕ, cond, List, Option, Some, None}
 use Rattle.std.specs.Str.{bytes_eq}
 use Rattle.std.specs.Cmp.Lexicographic.{slice_cmp}
 use Rattle.std.specs.Ordering.{nat_cmp}

@@ -1,5 +1,5 @@
 -- What stands at the front of some bytes, worked out from the left: the piece and its length.
-use Rattle.std.specs.Prelude.{◌≡◌, ℕ, zero, suc, ◌+◌, ◌-◌, ◌*◌, Bool, true, false, cond, not, ◌&&◌, ◌||◌, List, [], ◌∷◌, length, take, drop, Option, Some, None, nat_eq, nat_lt, nat_le, pos, codes, slice_index}
+use Rattle.std.specs.Prelude.{ℕ, zero, suc, ◌+◌, ◌-◌, ◌*◌, Bool, true, false, cond, not, ◌&&◌, ◌||◌, List, [], ◌∷◌, length, take, drop, Option, Some, None, nat_eq, nat_lt, nat_le, pos, codes, slice_index}
 use Rattle.std.specs.Ordering.{int_eq}
 use Rattle.std.specs.Option.{option_map}
 use Rattle.std.specs.Str.{bytes_eq}
@@ -146,8 +146,8 @@ define_agreed known gap name len (Some (number, n)) = cond (agrees (known name) 
 unfoldable pub define_named : Meanings → ℕ → List ℕ → Option (Found × ℕ)
 define_named known gap bytes =
     cond (starts is_letter bytes && not (is_key (take (run is_name_byte bytes) bytes)))
-      (define_agreed known gap (take (run is_name_byte bytes) bytes) (run is_name_byte bytes) (numbered (drop (run is_name_byte bytes) bytes)))
-      None
+    (define_agreed known gap (take (run is_name_byte bytes) bytes) (run is_name_byte bytes) (numbered (drop (run is_name_byte bytes) bytes)))
+    None
 
 unfoldable pub define_at : Meanings → List ℕ → Option (Found × ℕ)
 define_at known bytes = define_named known (run is_gap bytes) (drop (run is_gap bytes) bytes)

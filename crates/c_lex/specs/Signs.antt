@@ -1,5 +1,5 @@
 -- The signs, of one to three bytes.
-use Rattle.std.specs.Prelude.{◌≡◌, ℕ, Bool, true, false, ◌&&◌, ◌||◌, List, [], ◌∷◌, nat_eq, codes}
+use Rattle.std.specs.Prelude.{◌≡◌, ℕ, Bool, true, ◌&&◌, ◌||◌, List, [], ◌∷◌, nat_eq, codes}
 use Rattle.std.specs.List.{list_any}
 
 -- the byte stands in the text

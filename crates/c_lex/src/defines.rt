@@ -17,7 +17,9 @@ impl<'a> Defines<'a> {
     pub fn new(alloc: Global) -> Self
         ensures { meanings result.numbers ≡ empty }
     {
-        Defines { numbers: BTreeMap::new(alloc) }
+        Defines {
+            numbers: BTreeMap::new(alloc),
+        }
     }
 
     pub fn find(&self, name: &[u8]) -> Option<Literal>

@@ -117,7 +117,13 @@ fn is_definable(src: &[u8], at: usize, len: usize) -> bool
 
 // The definition of this name, so far behind the directive's word, where the number agrees.
 #[tactic(auto, unfolding(crate::specs::Front::define_agreed))]
-fn agreed(defines: &Defines, gap: usize, name: &[u8], len: usize, value: Option<(Literal, usize)>) -> Option<(Found, usize)>
+fn agreed(
+    defines: &Defines,
+    gap: usize,
+    name: &[u8],
+    len: usize,
+    value: Option<(Literal, usize)>,
+) -> Option<(Found, usize)>
     requires gap { gap ≤ 1048576 }
     requires len { len ≤ 1048576 }
     requires rest { IfSome value (λ v. v.1 ≤ 1048576) }
@@ -147,7 +153,13 @@ fn define_named(src: &[u8], at: usize, gap: usize, defines: &Defines) -> Option<
     if !is_definable(src, at, len) {
         return None;
     }
-    agreed(defines, gap, &src[at..at + len], len, numbered(src, at + len))
+    agreed(
+        defines,
+        gap,
+        &src[at..at + len],
+        len,
+        numbered(src, at + len),
+    )
 }
 
 // The definition behind its directive's word.

@@ -14,3 +14,6 @@ mod words;
 
 pub use scan::lex;
 pub use tokens::{Kind, LexRefusal, Token};
+
+#[cfg(test)]
+mod tests;

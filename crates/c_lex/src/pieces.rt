@@ -182,7 +182,11 @@ fn other_piece(src: &[u8], at: usize, fresh: bool, defines: &Defines) -> Option<
         return text_piece(src, at + 1);
     }
     if first == b'#' {
-        return if fresh { directive_piece(src, at + 1, defines) } else { None };
+        return if fresh {
+            directive_piece(src, at + 1, defines)
+        } else {
+            None
+        };
     }
     if first == b'/' {
         return slash_piece(src, at);

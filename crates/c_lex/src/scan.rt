@@ -29,7 +29,13 @@ fn keep(tokens: &mut Vec<Token>, place: Place, found: Found, len: usize) -> Resu
 {
     match found {
         Found::Taken(kind) => {
-            let token = Token { kind, start: place.at, len, line: place.line, col: place.col };
+            let token = Token {
+                kind,
+                start: place.at,
+                len,
+                line: place.line,
+                col: place.col,
+            };
             tokens.push(token)?;
             Ok(())
         }
@@ -54,7 +60,10 @@ fn note<'a>(defines: &mut Defines<'a>, src: &'a [u8], at: usize, found: Found) -
     ensures { OnOk result (meanings defines.new.numbers ≡ known_from src.entry.now at (meanings defines.old.numbers) found) }
 {
     match found {
-        Found::Define { from, len, number } => defines.put(&src[at + from..at + from + len], number),
+        Found::Define { from, len, number } => defines.put(
+            &src[at + from..at + from + len],
+            number,
+        ),
         _ => Ok(()),
     }
 }
@@ -77,11 +86,18 @@ fn tokens_of(alloc: Global, src: &[u8]) -> Result<Vec<Token>, Stop>
 {
     let mut tokens = Vec::new(alloc);
     let mut defines = Defines::new(alloc);
-    let mut place = Place { at: 0, line: 1, col: 1 };
+    let mut place = Place {
+        at: 0,
+        line: 1,
+        col: 1,
+    };
     let mut fresh = true;
     while place.at < src.len() {
         match piece(src, place.at, fresh, &defines) {
-            None => return Err(Stop::Refused(LexRefusal { line: place.line, col: place.col })),
+            None => return Err(Stop::Refused(LexRefusal {
+                line: place.line,
+                col: place.col,
+            })),
             Some((found, len)) => {
                 if keep(&mut tokens, place, found, len).is_err() {
                     return Err(Stop::Memory);

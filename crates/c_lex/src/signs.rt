@@ -6,8 +6,11 @@ ghost use Rattle.c_lex.specs.Front.{sign_len as sign_length};
 use crate::bytes::is_one_of;
 
 const ONES: &[u8] = b"()[]{};,.?:+-*/%&|^~!<>=";
+
 const DOUBLED: &[u8] = b"+-&|<>";
+
 const ENDED_BY_EQUALS: &[u8] = b"=!<>+-*/%&|^";
+
 const SHIFTS: &[u8] = b"<>";
 
 #[tactic(auto, unfolding(crate::specs::Signs::is_one))]
@@ -21,7 +24,8 @@ fn is_one(first: u8) -> bool
 fn is_two(first: u8, second: u8) -> bool
     ensures { result ≡ two first second }
 {
-    (first == second && is_one_of(DOUBLED, first)) || (second == b'=' && is_one_of(ENDED_BY_EQUALS, first))
+    (first == second && is_one_of(DOUBLED, first))
+        || (second == b'=' && is_one_of(ENDED_BY_EQUALS, first))
 }
 
 #[tactic(auto, unfolding(crate::specs::Signs::is_three))]

@@ -7,10 +7,7 @@ pub enum Kind {
     Key,
     /// A number from 0 to the greatest value of 64 signed bits; it is a long where it has the
     /// suffix, or is too large for an int.
-    Number {
-        value: i64,
-        long: bool,
-    },
+    Number { value: i64, long: bool },
     Text,
     Sign,
     /// What stands behind `#pragma` in its line.

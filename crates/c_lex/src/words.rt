@@ -10,13 +10,50 @@ use crate::bytes::{is_digit, is_hex};
 use crate::tokens::Literal;
 
 const KEYS: [&str; 40] = [
-    "int", "long", "void", "char", "static", "if", "else", "while", "do", "for", "return", "break", "continue", "sizeof",
-    "MPI_Comm", "MPI_Request", "MPI_Status", "auto", "case", "const", "default", "double", "enum", "extern", "float",
-    "goto", "inline", "register", "restrict", "short", "signed", "struct", "switch", "typedef", "union", "unsigned",
-    "volatile", "_Bool", "_Complex", "_Imaginary",
+    "int",
+    "long",
+    "void",
+    "char",
+    "static",
+    "if",
+    "else",
+    "while",
+    "do",
+    "for",
+    "return",
+    "break",
+    "continue",
+    "sizeof",
+    "MPI_Comm",
+    "MPI_Request",
+    "MPI_Status",
+    "auto",
+    "case",
+    "const",
+    "default",
+    "double",
+    "enum",
+    "extern",
+    "float",
+    "goto",
+    "inline",
+    "register",
+    "restrict",
+    "short",
+    "signed",
+    "struct",
+    "switch",
+    "typedef",
+    "union",
+    "unsigned",
+    "volatile",
+    "_Bool",
+    "_Complex",
+    "_Imaginary",
 ];
 
 const LONG_MAX: u64 = 9223372036854775807;
+
 const INT_MAX: u64 = 2147483647;
 
 /// Whether the word is this one.
@@ -126,7 +163,11 @@ fn numeral(word: &[u8]) -> Option<u64>
     ensures value { result ≡ numeral_of word.now }
     ensures fits { IfSome result (λ n. n ≤ 9223372036854775807) }
 {
-    if is_marked(word) { hexadecimal(&word[2..]) } else { decimal(word) }
+    if is_marked(word) {
+        hexadecimal(&word[2..])
+    } else {
+        decimal(word)
+    }
 }
 
 // Whether the last byte is L or l.
@@ -147,8 +188,14 @@ pub fn number(word: &[u8]) -> Option<Literal>
 {
     if is_suffixed(word) {
         let value = numeral(&word[..word.len() - 1])?;
-        return Some(Literal { value: value as i64, long: true });
+        return Some(Literal {
+            value: value as i64,
+            long: true,
+        });
     }
     let value = numeral(word)?;
-    Some(Literal { value: value as i64, long: value > INT_MAX })
+    Some(Literal {
+        value: value as i64,
+        long: value > INT_MAX,
+    })
 }

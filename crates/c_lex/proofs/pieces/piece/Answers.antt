@@ -1,5 +1,4 @@
-use Rattle.std.proofs.Common.{ℕ, ◌+◌, ◌≤◌, ◌<◌, length, get_or, Some, sym, ap, ◌∙◌, arith}
-use Rattle.c_lex.specs.declared.pieces.Found.TheVariants.{Comment}
+use Rattle.std.proofs.Common.{sym, ◌∙◌}
 use Rattle.c_lex.specs.Defined.{meanings}
 use Rattle.c_lex.proofs.DirectiveSteps.{if_true, if_false}
 use Rattle.c_lex.proofs.PieceSteps.{piece_is, yes, no}

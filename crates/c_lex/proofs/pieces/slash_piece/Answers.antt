@@ -1,6 +1,5 @@
-use Rattle.std.proofs.Common.{ℕ, ◌+◌, ◌≤◌, ◌<◌, length, get_or, Some, sym, ap, ◌∙◌, arith}
+use Rattle.std.proofs.Common.{ℕ, ◌+◌, Some, sym, ap, ◌∙◌, arith}
 use Rattle.c_lex.specs.declared.pieces.Found.TheVariants.{Comment}
-use Rattle.c_lex.specs.Defined.{meanings}
 use Rattle.c_lex.proofs.DirectiveSteps.{if_true, if_false}
 use Rattle.c_lex.proofs.PieceSteps.{slash_end, slash_more, yes, no}
 use Rattle.c_lex.proofs.pieces.slash_piece.Goals as goal

@@ -1,4 +1,4 @@
-use Rattle.std.proofs.Common.{◌+◌, ◌-◌, Some, sym, ap, ◌∙◌}
+use Rattle.std.proofs.Common.{Some, sym, ap, ◌∙◌}
 use Rattle.c_lex.specs.declared.pieces.Found.TheVariants.{Taken}
 use Rattle.c_lex.specs.Defined.{meanings}
 use Rattle.c_lex.proofs.PieceSteps.{word_is}
