@@ -1,0 +1,10 @@
+pub mod DirectiveSteps
+pub mod Fronts
+pub mod NumberFacts
+pub mod Ordered
+pub mod PieceSteps
+pub mod Runs
+pub mod SignFacts
+pub mod Stands
+pub mod Steps
+pub mod Unique

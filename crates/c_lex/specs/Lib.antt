@@ -1,0 +1,11 @@
+pub mod Bytes
+pub mod Classes
+pub mod Defined
+pub mod Directives
+pub mod Front
+pub mod Lexed
+pub mod Places
+pub mod Signs
+pub mod Spans
+pub mod Stops
+pub mod Words
