@@ -6,6 +6,8 @@ mod machine_file;
 mod machines;
 mod placements;
 mod refusals;
+#[cfg(test)]
+mod tests;
 
 pub use core_numbers::CoreNumbers;
 pub use machine_file::read_machine;

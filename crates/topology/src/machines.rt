@@ -54,6 +54,15 @@ impl Machine {
         self.cores.as_slice()
     }
 
+    /// A machine of the same cores.
+    pub fn copied(&self, alloc: Global) -> Result<Machine, Memory>
+        ensures { IfOk result (λ copy. copy ≡ self.now) }
+    {
+        Ok(Machine {
+            cores: Vec::from_slice(alloc, self.cores.as_slice())?,
+        })
+    }
+
     /// The instance of a level that a core is in: the core's number for that level, the core itself
     /// for `Core`, and 0 for `Node`.
     pub fn instance(&self, level: Level, core: u32) -> u32

@@ -1,0 +1,10 @@
+//! Whose copy of a static variable a task touches, and where the variable stands in its image.
+#![tactic(auto)]
+
+mod layout;
+mod levels;
+mod owner_list;
+mod shapes;
+
+pub use levels::Levels;
+pub use shapes::VarShape;
