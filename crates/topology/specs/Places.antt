@@ -42,9 +42,13 @@ turn_in groups task =
 abbrev pub scatter_core : List CoreNumbers → ℕ → ℕ
 scatter_core machine task = turn_in (map (cores_in machine) (numa_instances machine)) task
 
+-- the list itself, where it has one core for each task and each is below the number of cores
+abbrev pub listed_cores : List ℕ → ℕ → ℕ → Result (List ℕ) BadPlace
+listed_cores cores tasks count =
+    if length cores == tasks && list_all (λ core. nat_lt core count) cores then Ok cores else Err (record {})
+
 -- the cores of the tasks by a rule
 abbrev pub placed : Placement → ℕ → List CoreNumbers → Result (List ℕ) BadPlace
 placed Compact tasks machine = Ok (map (compact_core machine) (range_with_len 0 tasks))
 placed Scatter tasks machine = Ok (map (scatter_core machine) (range_with_len 0 tasks))
-placed (Listed cores) tasks machine =
-    if length cores == tasks && list_all (λ core. nat_lt core (length machine)) cores then Ok cores else Err (record {})
+placed (Listed cores) tasks machine = listed_cores cores tasks (length machine)

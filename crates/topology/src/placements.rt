@@ -1,6 +1,6 @@
-ghost use Rattle.std.specs.Prelude.{◌≡◌, IfOk, map, nat_lt, length, ◌<◌, IsTrue};
+ghost use Rattle.std.specs.Prelude.{◌≡◌, ◌%◌, All, IfOk, map, nat_lt, length, ◌<◌, IsTrue};
 ghost use Rattle.std.specs.List.{range_with_len, list_all};
-ghost use Rattle.topology.specs.Places.{placed, compact_core, scatter_core, turn_in, has_item, numa_instances, cores_in};
+ghost use Rattle.topology.specs.Places.{placed, listed_cores, scatter_core, turn_in, has_item, numa_instances, cores_in};
 
 use crate::machines::Machine;
 use crate::refusals::BadPlace;
@@ -29,19 +29,22 @@ pub fn place(
     tasks: u32,
     machine: &Machine,
 ) -> Result<Result<Cores, BadPlace>, Memory>
-    ensures { IfOk result (λ answer. answer ≡ placed rule.now tasks machine.now) }
+    ensures value { IfOk result (λ answer. answer ≡ placed rule.now tasks machine.now) }
+    ensures count { IfOk result (λ answer. IfOk answer (λ cores. length cores ≡ tasks)) }
+    ensures there { IfOk result (λ answer. IfOk answer (All (λ core. core < length machine.now))) }
 {
+    let count = machine.cores();
     match rule {
-        Placement::Compact => Ok(Ok(Cores::of(compact(alloc, tasks, machine)?))),
+        Placement::Compact => Ok(Ok(Cores::of(compact(alloc, tasks, count)?))),
         Placement::Scatter => Ok(Ok(Cores::of(scatter(alloc, tasks, machine)?))),
-        Placement::Listed(cores) => listed(alloc, cores.as_slice(), tasks, machine),
+        Placement::Listed(cores) => listed(alloc, cores.as_slice(), tasks, count),
     }
 }
 
-fn compact(alloc: Global, tasks: u32, machine: &Machine) -> Result<Vec<u32>, Memory>
-    ensures { IfOk result (λ list. list.items ≡ map (compact_core machine.now) (range_with_len 0 tasks)) }
+fn compact(alloc: Global, tasks: u32, count: u32) -> Result<Vec<u32>, Memory>
+    requires { 0 < count }
+    ensures { IfOk result (λ list. list.items ≡ map (λ task. task % count) (range_with_len 0 tasks)) }
 {
-    let count = machine.cores();
     let mut list = Vec::new(alloc);
     for task in 0..tasks {
         list.push(task % count)?;
@@ -53,11 +56,11 @@ fn listed(
     alloc: Global,
     cores: &[u32],
     tasks: u32,
-    machine: &Machine,
+    count: u32,
 ) -> Result<Result<Cores, BadPlace>, Memory>
-    ensures { IfOk result (λ answer. answer ≡ placed (Placement.Listed cores.now) tasks machine.now) }
+    ensures { IfOk result (λ answer. answer ≡ listed_cores cores.now tasks count) }
 {
-    if cores.len() == tasks as usize && all_below(cores, machine.cores()) {
+    if cores.len() == tasks as usize && all_below(cores, count) {
         Ok(Ok(Cores::of(Vec::from_slice(alloc, cores)?)))
     } else {
         Ok(Err(BadPlace))

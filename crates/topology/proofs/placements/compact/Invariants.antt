@@ -1,7 +1,6 @@
-use Rattle.std.proofs.Common.{◌≡◌, map}
+use Rattle.std.proofs.Common.{◌≡◌, ◌%◌, map}
 use Rattle.std.specs.List.{range_with_len}
-use Rattle.topology.specs.Places.{compact_core}
 use Rattle.topology.proofs.placements.compact.Given as goal
 
 abbrev pub invariant-loop-task : goal.invariant-loop-task
-invariant-loop-task l = l.list.items ≡ map (compact_core l.machine) (range_with_len 0 l.task)
+invariant-loop-task l = l.list.items ≡ map (λ task. task % l.count) (range_with_len 0 l.task)
