@@ -1,6 +1,6 @@
 -- Variables of one image stand one behind the other.
 use Rattle.std.proofs.Common.{◌≡◌, ◌≢◌, ℕ, ◌+◌, ◌<◌, ◌≤◌, Bool, true, false, cond, eqb, List, [], ◌∷◌, ◌++◌, length, map, take, get_or, set, None, refl, sym, ap, ◌∙◌, append_assoc, length-take-le, add-zero, get_or-set_same, get_or-set_other, arith}
-use Rattle.std.specs.List.{filter, range_with_len, slice_get, sum_by}
+use Rattle.std.specs.List.{filter, range_with_len, sum_by}
 use Rattle.std.specs.Option.{option_and_then, option_map_or}
 use Rattle.std.proofs.lemmas.Bool.{eq-eqb, eqb-true, false≢true}
 use Rattle.std.proofs.lemmas.List.{take-take, get_or-take}

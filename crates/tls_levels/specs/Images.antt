@@ -1,5 +1,5 @@
 -- Where variables stand in images.
-use Rattle.std.specs.Prelude.{ℕ, Bool, ◌==◌, if◌then◌else◌, List, take, Option, Some, None}
+use Rattle.std.specs.Prelude.{ℕ, ◌==◌, if◌then◌else◌, List, take, Option, Some, None}
 use Rattle.std.specs.List.{slice_get, sum_by}
 use Rattle.std.specs.Option.{option_and_then, option_map_or}
 use Rattle.mpc_base.specs.declared.owners.Level.{Level}

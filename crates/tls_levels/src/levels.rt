@@ -4,7 +4,7 @@ ghost use Rattle.std.specs.List.{sum_by};
 use crate::layout::{Layout, lay_out};
 use crate::owner_list::owners_of;
 use crate::shapes::{VarShape, image_number, shapes_of};
-use mpc_base::{Level, Memory, Owner, StaticVar};
+use mpc_base::{Memory, Owner, StaticVar};
 use std::alloc::Global;
 use std::marker::Model;
 use topology::Machine;
@@ -50,7 +50,8 @@ impl Levels {
         requires there { All (λ core. core < length machine.now) cores.now }
         requires few_words { sum_by (λ var. var.len) globals.now ≤ 262144 }
         requires first_words { All (λ var. length var.first ≡ var.len) globals.now }
-        ensures { IfOk result (λ levels. levels ≡ sharing_of globals.now machine.now cores.now) }
+        ensures value { IfOk result (λ levels. levels ≡ sharing_of globals.now machine.now cores.now) }
+        ensures vars { IfOk result (λ levels. length levels.shapes ≡ length globals.now) }
     {
         let shapes = shapes_of(alloc, globals)?;
         let Layout { offsets, totals } = lay_out(alloc, shapes.as_slice())?;

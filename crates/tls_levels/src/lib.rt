@@ -5,6 +5,8 @@ mod layout;
 mod levels;
 mod owner_list;
 mod shapes;
+#[cfg(test)]
+mod tests;
 
 pub use levels::Levels;
 pub use shapes::VarShape;

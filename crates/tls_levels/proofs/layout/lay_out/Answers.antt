@@ -1,4 +1,4 @@
-use Rattle.std.proofs.Common.{◌≡◌, ◌<◌, ℕ, length, take, get_or, map, refl, sym, ap, ◌∙◌, length-set, arith}
+use Rattle.std.proofs.Common.{refl, ap, ◌∙◌, length-set, arith}
 use Rattle.std.proofs.lemmas.List.{get_or_read, take_all}
 use Rattle.std.proofs.lemmas.List.FromFn.{fill_by_all}
 use Rattle.topology.proofs.Ranges.{map-range_next}

@@ -1,4 +1,4 @@
-use Rattle.std.proofs.Common.{◌∙◌, ap, sym, refl, arith}
+use Rattle.std.proofs.Common.{◌∙◌, ap, sym, arith}
 use Rattle.topology.specs.MachineFile.{together}
 use Rattle.topology.proofs.FileLaws.{numbers_seen, together_more, together_none, together_all, cores-view}
 use Rattle.topology.proofs.machine_file.all_numbers.Goals as goal

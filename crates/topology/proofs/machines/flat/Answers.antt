@@ -1,4 +1,4 @@
-use Rattle.std.proofs.Common.{length, ap, ◌∙◌, refl, rules, arith}
+use Rattle.std.proofs.Common.{length, ap, refl, arith}
 use Rattle.std.proofs.lemmas.List.FromFn.{map-range_with_len_more, length-map-range_with_len}
 use Rattle.topology.specs.Instances.{flat_core}
 use Rattle.topology.proofs.MachineLaws.{list_all-flat}

@@ -1,7 +1,7 @@
-use Rattle.std.proofs.Common.{◌≡◌, ◌+◌, ◌<◌, ◌≤◌, ℕ, length, get_or, map, ap, sym, ◌∙◌, subst, arith}
+use Rattle.std.proofs.Common.{◌≡◌, ◌<◌, ℕ, length, get_or, map, ap, ◌∙◌, arith}
 use Rattle.std.specs.List.{range_with_len}
 use Rattle.std.proofs.lemmas.List.FromFn.{get_or-map-range_with_len, length-map-range_with_len}
-use Rattle.tls_levels.specs.Images.{offset_in, image_number, words_in, len_at}
+use Rattle.tls_levels.specs.Images.{offset_in, image_number, words_in}
 use Rattle.tls_levels.specs.Sharing.{Sharing}
 use Rattle.tls_levels.proofs.ImageLaws.{ends_within, ends_before}
 use Rattle.tls_levels.proofs.levels.Levels.offset.Goals as goal
