@@ -1,0 +1,4 @@
+pub mod Images
+pub mod Owners
+pub mod Sharing
+pub mod Kept

@@ -1,0 +1,4 @@
+pub mod Ranges
+pub mod MachineLaws
+pub mod FileLaws
+pub mod PlaceLaws

@@ -1,0 +1,4 @@
+pub mod Refusals
+pub mod Instances
+pub mod Places
+pub mod MachineFile
