@@ -1,0 +1,17 @@
+pub mod Repeated
+pub mod PiecesDue
+pub mod Grammar
+pub mod Names
+pub mod Formats
+pub mod Trees
+pub mod OutputBounds
+pub mod OneTaskMemory
+pub mod OneTaskSteps
+pub mod Walks
+pub mod PlainBodies
+pub mod Begins
+pub mod SentLemmas
+pub mod Commands
+pub mod Lines
+pub mod Sources
+pub mod Completeness

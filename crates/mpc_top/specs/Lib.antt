@@ -1,0 +1,13 @@
+pub mod KnownNames
+pub mod FirstSource
+pub mod FirstReader
+pub mod ReaderSeen
+pub mod FormatReader
+pub mod Outputs
+pub mod OneTask
+pub mod Walking
+pub mod Plain
+pub mod Command
+pub mod Answers
+pub mod Sent
+pub mod Refusals
