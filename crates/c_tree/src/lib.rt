@@ -9,3 +9,6 @@ mod variables;
 
 pub use trees::{Expr, Function, Program, Stmt};
 pub use variables::Globals;
+
+#[cfg(test)]
+mod tests;

@@ -4,3 +4,6 @@
 mod reports;
 
 pub use reports::report;
+
+#[cfg(test)]
+mod tests;

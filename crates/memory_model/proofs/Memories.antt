@@ -1,5 +1,5 @@
 -- Laws of the map from objects to words.
-use Rattle.std.proofs.Common.{◌≡◌, ℕ, Bool, true, false, cond, List, [], ◌∷◌, Option, Some, None, refl, sym, ap, ◌∙◌}
+use Rattle.std.proofs.Common.{◌≡◌, ℕ, Bool, true, false, cond, List, Some, refl, sym, ap, ◌∙◌}
 use Rattle.std.specs.Ordering.{nat_cmp, eq_by_cmp, is_eq}
 use Rattle.std.specs.declared.cmp.Ordering.{Ordering}
 use Rattle.std.specs.declared.cmp.Ordering.TheVariants.{Less, Equal, Greater}
@@ -49,18 +49,18 @@ swapped false false x y z h = refl
 pub insert-insert_same : (m : Memory) (k : List ℕ) (x y : List Word) → map.insert (map.insert m k x) k y ≡ map.insert m k y
 insert-insert_same m k x y =
     map.same_map nat_list_cmp_total (map.slice_cmp-IsAntisymmetric map.nat_cmp-IsAntisymmetric) _ _ (λ q.
-      map.get-insert nat_list_cmp_total (map.insert m k x) k y q
-      ∙ ap (cond (eq_by_cmp (slice_cmp nat_cmp) q k) (Some y)) (map.get-insert nat_list_cmp_total m k x q)
-      ∙ shadowed (eq_by_cmp (slice_cmp nat_cmp) q k) (Some x) (Some y) (map.get m q)
-      ∙ sym (map.get-insert nat_list_cmp_total m k y q))
+    map.get-insert nat_list_cmp_total (map.insert m k x) k y q
+    ∙ ap (cond (eq_by_cmp (slice_cmp nat_cmp) q k) (Some y)) (map.get-insert nat_list_cmp_total m k x q)
+    ∙ shadowed (eq_by_cmp (slice_cmp nat_cmp) q k) (Some x) (Some y) (map.get m q)
+    ∙ sym (map.get-insert nat_list_cmp_total m k y q))
 
 -- inserts of two keys may change places
 pub insert-insert_other : (m : Memory) (k l : List ℕ) (x y : List Word) → (k ≡ l → ⊥) → map.insert (map.insert m k x) l y ≡ map.insert (map.insert m l y) k x
 insert-insert_other m k l x y other =
     map.same_map nat_list_cmp_total (map.slice_cmp-IsAntisymmetric map.nat_cmp-IsAntisymmetric) _ _ (λ q.
-      map.get-insert nat_list_cmp_total (map.insert m k x) l y q
-      ∙ ap (cond (eq_by_cmp (slice_cmp nat_cmp) q l) (Some y)) (map.get-insert nat_list_cmp_total m k x q)
-      ∙ swapped (eq_by_cmp (slice_cmp nat_cmp) q k) (eq_by_cmp (slice_cmp nat_cmp) q l) (Some x) (Some y) (map.get m q)
-        (λ a b. other (sym (same_key q k a) ∙ same_key q l b))
-      ∙ sym (map.get-insert nat_list_cmp_total (map.insert m l y) k x q
-        ∙ ap (cond (eq_by_cmp (slice_cmp nat_cmp) q k) (Some x)) (map.get-insert nat_list_cmp_total m l y q)))
+    map.get-insert nat_list_cmp_total (map.insert m k x) l y q
+    ∙ ap (cond (eq_by_cmp (slice_cmp nat_cmp) q l) (Some y)) (map.get-insert nat_list_cmp_total m k x q)
+    ∙ swapped (eq_by_cmp (slice_cmp nat_cmp) q k) (eq_by_cmp (slice_cmp nat_cmp) q l) (Some x) (Some y) (map.get m q)
+    (λ a b. other (sym (same_key q k a) ∙ same_key q l b))
+    ∙ sym (map.get-insert nat_list_cmp_total (map.insert m l y) k x q
+    ∙ ap (cond (eq_by_cmp (slice_cmp nat_cmp) q k) (Some x)) (map.get-insert nat_list_cmp_total m l y q)))

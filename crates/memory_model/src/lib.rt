@@ -12,12 +12,10 @@ ghost use Rattle.memory_model.specs.Memory.{Memory, key_of, words_of, with_words
 pub fn each_object_has_its_words()
     ensures given { (m : Memory) (owner : Owner) (obj : Obj) (words : List Word) → words_of (with_words m owner obj words) owner obj ≡ Some words }
     ensures others { (m : Memory) (owner other : Owner) (obj another : Obj) (words : List Word) → (key_of other another ≡ key_of owner obj → ⊥) → words_of (with_words m owner obj words) other another ≡ words_of m other another }
-{
-}
+{}
 
 /// Two objects are named by one key only where they are the same object of the same owner.
 pub fn each_object_has_its_key()
     ensures owner { (owner other : Owner) (obj another : Obj) → key_of owner obj ≡ key_of other another → owner ≡ other }
     ensures object { (owner other : Owner) (obj another : Obj) → key_of owner obj ≡ key_of other another → obj ≡ another }
-{
-}
+{}

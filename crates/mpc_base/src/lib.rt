@@ -40,4 +40,6 @@ pub use thread_spawner::ThreadSpawner;
 pub use values::{Datatype, Obj, Op, Word};
 
 #[cfg(test)]
+mod outside_tests;
+#[cfg(test)]
 mod tests;

@@ -75,6 +75,13 @@ fn each_spawner_starts_its_jobs(rt: HostRuntime) -> Result<(), Fail> {
         assert_eq!(rt; found, Some((number, 1)));
         assert_eq!(rt; mark.load(Ordering::SeqCst), 0);
     }
+
+    // The inner spawner is told when a job runs.
+    let mut listed_late = ListedSpawner::new(late, vec![in alloc; 1]?);
+    for (start, want) in [(0, Some((0, 1))), (1, None), (2, Some((2, 1)))] {
+        let found = started_and_joined(&rt, &mut listed_late, start, Arc::try_clone(&mark)?);
+        assert_eq!(rt; found, want, "late start {start}");
+    }
     FreePace.pass(0, 0);
     Ok(())
 }

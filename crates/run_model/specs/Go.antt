@@ -1,7 +1,6 @@
 -- One step of one task.
-use Rattle.std.specs.Prelude.{◌≡◌, ℕ, ℤ, pos, ◌+◌, Bool, true, false, ◌||◌, if◌then◌else◌, List, [], ◌∷◌, ◌++◌, length, nat_le, slice_get, slice_set, Option, Some, None, is_some}
+use Rattle.std.specs.Prelude.{ℕ, pos, ◌+◌, Bool, ◌||◌, if◌then◌else◌, List, [], ◌∷◌, ◌++◌, length, nat_le, slice_get, slice_set, Option, Some, None, is_some}
 use Rattle.std.specs.List.{list_all}
-use Rattle.mpc_base.specs.declared.values.Word.{Word}
 use Rattle.mpc_base.specs.declared.values.Word.TheVariants.{Int}
 use Rattle.mpc_base.specs.declared.calls.Call.{Call}
 use Rattle.mpc_base.specs.declared.calls.Call.TheVariants.{Load, Store, Print, Finish}
@@ -19,7 +18,6 @@ use Rattle.memory_model.specs.Memory.{Memory}
 use Rattle.memory_model.specs.Access.{Access, Answers, Breaks, load, store}
 use Rattle.run_model.specs.declared.records.Setup.{Setup}
 use Rattle.run_model.specs.declared.tasks.TaskState.{TaskState}
-use Rattle.run_model.specs.declared.tasks.Last.{Last}
 use Rattle.run_model.specs.World.{World, owner_of}
 
 -- What a call does: an answer, with the memory and the task behind it, or a fault.

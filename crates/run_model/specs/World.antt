@@ -1,5 +1,5 @@
 -- The world of a run: what separate processes, which share nothing but their declared variables, hold at one moment.
-use Rattle.std.specs.Prelude.{ℕ, zero, suc, ◌+◌, List, [], ◌∷◌, replicate, Option, Some, None}
+use Rattle.std.specs.Prelude.{ℕ, zero, suc, ◌+◌, List, [], ◌∷◌, replicate, Option, None}
 use Rattle.std.specs.FinMap as map
 use Rattle.mpc_base.specs.declared.values.Obj.{Obj}
 use Rattle.mpc_base.specs.declared.values.Obj.TheVariants.{Glob}

@@ -7,5 +7,4 @@ ghost use Rattle.run_model.specs.Run.{run, ran_step, at_start};
 pub fn runs_go_on_by_one_step()
     ensures begins { (setup : Setup) → run setup [] ≡ at_start setup }
     ensures goes_on { (setup : Setup) (order : List ℕ) (task : ℕ) → run setup (order ++ task ∷ []) ≡ ran_step (run setup order) (go setup (run setup order).world task) }
-{
-}
+{}

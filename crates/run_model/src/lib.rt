@@ -9,3 +9,6 @@ mod tasks;
 pub use laws::runs_go_on_by_one_step;
 pub use records::{RankEnd, RankEnds, RankState, RunRecord, Setup};
 pub use tasks::{Last, TaskState};
+
+#[cfg(test)]
+mod tests;
