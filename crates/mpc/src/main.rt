@@ -8,7 +8,8 @@ mod words;
 
 use crate::host_files::HostFiles;
 use crate::host_sink::HostSink;
-use mpc_base::{Files, Memory, Sink};
+use mpc_base::Memory;
+use mpc_top::mpc_serial;
 use std::alloc::Global;
 use std::process::ExitCode;
 
@@ -27,23 +28,6 @@ fn run(rt: HostRuntime, words: &[String]) -> u8 {
     let mut files = HostFiles::new(rt);
     let mut out = HostSink::new(rt.stdout());
     mpc_serial(rt.alloc(), words, &mut files, &mut out).status
-}
-
-// The two items below stand in for the top call, which is not there yet.
-
-#[derive(Drop)]
-struct Top {
-    status: u8,
-}
-
-fn mpc_serial<F: Files, K: Sink>(
-    _alloc: Global,
-    _words: &[String],
-    _files: &mut F,
-    out: &mut K,
-) -> Top {
-    let _ = out.write(b"mpc: usage\n");
-    Top { status: 6 }
 }
 
 #[cfg(test)]

@@ -1,0 +1,9 @@
+#include <stdio.h>
+
+int x;
+
+int main(void) {
+    x = 2;
+    printf("%d\n", x);
+    return 0;
+}
