@@ -1,5 +1,5 @@
 -- A plain program's run at its start.
-use Rattle.std.proofs.Common.{◌≡◌, ℕ, ℤ, pos, ◌+◌, ◌≤◌, List, [], ◌∷◌, ◌++◌, length, map, refl, sym, ap, ◌∙◌, subst, Option, Some, None, arith, FitsSigned}
+use Rattle.std.proofs.Common.{◌≡◌, ℕ, ℤ, pos, List, [], ◌∷◌, length, map, refl, sym, ap, ◌∙◌, subst, Option, None, arith}
 use Rattle.std.proofs.lemmas.List.{length-map}
 use Rattle.std.specs.FinMap as finite
 use Rattle.mpc_base.specs.declared.values.Word.{Word}
@@ -10,13 +10,13 @@ use Rattle.memory_model.specs.Memory.{Memory}
 use Rattle.c_tree.specs.declared.trees.Program.{Program}
 use Rattle.run_model.specs.declared.records.Setup.{Setup}
 use Rattle.run_model.specs.World.{World, start, with_variables}
-use Rattle.run_model.specs.Run.{run, order_of, at_start}
+use Rattle.run_model.specs.Run.{run, order_of}
 use Rattle.run_model.proofs.Runs.{run-start}
 use Rattle.mpc_top.specs.declared.one_task.OneTask.{OneTask}
 use Rattle.mpc_top.specs.FirstSource.{int_variable}
-use Rattle.mpc_top.specs.OneTask.{IsRun, memory_of, world_seen, answers_in}
+use Rattle.mpc_top.specs.OneTask.{memory_of, world_seen, answers_in}
 use Rattle.mpc_top.specs.Plain.{IsPlainBody, IsPlainProgram}
-use Rattle.mpc_top.specs.Walking.{Walks, GoesOn, AreInts}
+use Rattle.mpc_top.specs.Walking.{Walks, AreInts}
 use Rattle.mpc_top.proofs.OneTaskMemory.{variables_begin}
 use Rattle.mpc_top.proofs.Trees.{constant_of}
 

@@ -1,5 +1,5 @@
 -- A first source that is read and written without a fault ends with status 0.
-use Rattle.std.proofs.Common.{◌≡◌, ◌≢◌, ℕ, zero, suc, List, Option, Some, None, IfSome, inl, inr, refl, sym, ap, ◌∙◌, subst, arith}
+use Rattle.std.proofs.Common.{◌≡◌, ◌≢◌, ℕ, zero, suc, List, Option, Some, None, IfSome, inl, inr, refl, ◌∙◌, subst, arith}
 use Rattle.mpc_base.specs.Causes.{Rose}
 use Rattle.mpc_base.specs.Told.{Store, content_of}
 use Rattle.c_tree.specs.declared.trees.Program.{Program}

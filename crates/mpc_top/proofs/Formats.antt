@@ -1,7 +1,6 @@
 -- The two parts of a text are found exactly where it is a format.
-use Rattle.std.proofs.Common.{◌≡◌, ℕ, suc, zero, ◌+◌, ◌≤◌, Bool, true, false, not, ◌&&◌, ◌||◌, ◌==◌, cond, List, [], ◌∷◌, ◌++◌, take, drop, length, refl, sym, ap, ◌∙◌, subst, Option, Some, None, IfSome, arith, add_comm, add-one, nat_eq}
+use Rattle.std.proofs.Common.{◌≡◌, ℕ, suc, zero, ◌+◌, Bool, true, false, not, ◌&&◌, ◌||◌, ◌==◌, cond, List, [], ◌∷◌, ◌++◌, take, drop, length, refl, sym, ap, ◌∙◌, subst, Option, Some, None, IfSome, arith, add_comm, add-one}
 use Rattle.std.specs.Option.{option_map}
-use Rattle.std.specs.List.{list_any, prefix_len, position_or_len}
 use Rattle.std.proofs.lemmas.Bool.Decides.{nat_tests}
 use Rattle.mpc_top.specs.FirstSource.{IsFormat, has_percent}
 use Rattle.mpc_top.specs.FormatReader.{percent_at, behind_d, parts_with, parts_of}

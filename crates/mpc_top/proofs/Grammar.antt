@@ -1,12 +1,12 @@
 -- The reader finds a first source exactly where the pieces spell one.
-use Rattle.std.proofs.Common.{◌≡◌, ℕ, ℤ, pos, suc, zero, ◌+◌, ◌≤◌, Bool, true, false, ◌&&◌, cond, List, [], ◌∷◌, ◌++◌, length, drop, codes, refl, sym, ap, ◌∙◌, subst, Option, Some, None, option_and_then, IfSome, arith}
+use Rattle.std.proofs.Common.{◌≡◌, ℕ, ℤ, pos, suc, ◌+◌, ◌≤◌, Bool, true, false, ◌&&◌, cond, List, [], ◌∷◌, length, drop, codes, refl, sym, ap, ◌∙◌, subst, Option, Some, None, option_and_then, IfSome, arith}
 use Rattle.std.specs.Option.{option_map}
 use Rattle.std.specs.Str.{bytes_eq}
 use Rattle.std.proofs.lemmas.Bool.Decides.{Decides-int_eq}
-use Rattle.mpc_top.specs.FirstSource.{Piece, Due, Key, Sign, Name, Text, Decimal, Is, Begins, Each, Declares, States, Statement, Sets, Prints, FirstUnit, Spells, declaration, statement, head, tail, line_at, line_of}
+use Rattle.mpc_top.specs.FirstSource.{Piece, Due, Key, Sign, Name, Text, Decimal, Is, Begins, Declares, States, Statement, Sets, Prints, FirstUnit, Spells, declaration, statement, head, tail, line_at}
 use Rattle.mpc_top.specs.ReaderSeen.{unit_seen}
 use Rattle.mpc_top.specs.declared.first_statement.FirstUnit.{FirstUnit as FoundUnit}
-use Rattle.mpc_top.specs.FirstReader.{key, sign, name, named, text, decimal, declaration_at, head_at, sets_at, prints_at, statement_at, tail_at, end_at, is_zero, is_name, is_key, is_sign, int_value, unit_of, unit_behind, unit_with, or_else, many, declarations, statements}
+use Rattle.mpc_top.specs.FirstReader.{key, sign, name, named, text, decimal, declaration_at, head_at, sets_at, prints_at, statement_at, tail_at, end_at, is_zero, is_name, is_key, is_sign, int_value, unit_of, unit_behind, unit_with, or_else, declarations, statements}
 use Rattle.mpc_top.proofs.PiecesDue.{key_due, sign_due, named_due, name_due, text_due, decimal_due, decimal_found, chosen, key_taken, sign_taken, named_taken, name_taken, text_taken, decimal_taken}
 use Rattle.mpc_top.proofs.Repeated.{many_found, many_read, each_shorter}
 

@@ -1,7 +1,7 @@
 -- What a sink has taken of a line or a report.
-use Rattle.std.proofs.Common.{◌≡◌, ◌≢◌, ℕ, List, ◌++◌, take, length, Option, Some, None, Result, Ok, Err, OnOk, OnErr, refl, sym, ap, ◌∙◌}
+use Rattle.std.proofs.Common.{ℕ, List, ◌++◌, length, Option, Some, None, Result, Ok, Err, OnOk, OnErr, refl, sym, ap, ◌∙◌}
 use Rattle.std.proofs.Math.Seq.{take-length}
-use Rattle.mpc_base.specs.Causes.{HasCause, Rose}
+use Rattle.mpc_base.specs.Causes.{HasCause}
 use Rattle.mpc_base.specs.Told.{Took, TookPrefix}
 use Rattle.mpc_top.specs.Answers.{WroteLine}
 use Rattle.mpc_top.specs.Refusals.{Showed}

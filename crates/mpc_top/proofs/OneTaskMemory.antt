@@ -1,5 +1,5 @@
 -- The memory of one task whose variables have one word each.
-use Rattle.std.proofs.Common.{◌≡◌, ℕ, zero, suc, ◌+◌, ◌<◌, ◌≤◌, List, [], ◌∷◌, map, length, get_or, slice_set, refl, sym, ap, ◌∙◌, Option, Some, None, pos, arith}
+use Rattle.std.proofs.Common.{◌≡◌, ℕ, zero, suc, ◌+◌, ◌<◌, ◌≤◌, List, [], ◌∷◌, map, length, get_or, slice_set, refl, sym, ap, ◌∙◌, Some, pos, arith}
 use Rattle.std.specs.FinMap as finite
 use Rattle.mpc_base.specs.declared.values.Word.{Word}
 use Rattle.mpc_base.specs.declared.values.Word.TheVariants.{Int}

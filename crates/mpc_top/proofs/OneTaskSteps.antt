@@ -1,5 +1,5 @@
 -- What each call of one task does, as a step of the definitions.
-use Rattle.std.proofs.Common.{◌≡◌, ℕ, ℤ, zero, suc, pos, ◌+◌, ◌<◌, ◌≤◌, Bool, true, false, nat_le, List, [], ◌∷◌, ◌++◌, length, get_or, slice_set, slice_get, refl, sym, ap, ◌∙◌, Option, Some, None, FitsSigned, arith, append_assoc}
+use Rattle.std.proofs.Common.{◌≡◌, ℕ, ℤ, zero, suc, pos, ◌+◌, ◌<◌, ◌≤◌, true, nat_le, List, [], ◌∷◌, ◌++◌, length, get_or, slice_set, refl, sym, ap, ◌∙◌, Some, None, FitsSigned, arith, append_assoc}
 use Rattle.std.proofs.lemmas.Bool.Decides.{nat_tests}
 use Rattle.mpc_base.specs.declared.values.Word.{Word}
 use Rattle.std.specs.Int.{w32}
@@ -8,7 +8,7 @@ use Rattle.mpc_base.specs.declared.values.Word.TheVariants.{Undef, Int, Null, Pt
 use Rattle.mpc_base.specs.declared.values.Obj.TheVariants.{Glob}
 use Rattle.mpc_base.specs.declared.owners.Owner.TheVariants.{Task}
 use Rattle.mpc_base.specs.declared.calls.Call.{Call}
-use Rattle.mpc_base.specs.declared.calls.Call.TheVariants.{Load, Store, Print, Finish}
+use Rattle.mpc_base.specs.declared.calls.Call.TheVariants.{Load, Store, Print}
 use Rattle.mpc_base.specs.declared.calls.Answer.{Answer}
 use Rattle.mpc_base.specs.declared.calls.Answer.TheVariants.{Done, Gives}
 use Rattle.mpc_base.specs.declared.journals.Entry.{Entry}
@@ -18,9 +18,8 @@ use Rattle.c_tree.specs.Asking.{Asks}
 use Rattle.c_tree.specs.Meaning.{next, place_of}
 use Rattle.run_model.specs.declared.records.Setup.{Setup}
 use Rattle.run_model.specs.declared.tasks.TaskState.{TaskState}
-use Rattle.run_model.specs.World.{World, owner_of}
-use Rattle.run_model.specs.Go.{go, go_next, go_task, acted, act, accessed, Act, Does, Makes, Stays, Step}
-use Rattle.run_model.specs.Run.{Ran, run, order_of}
+use Rattle.run_model.specs.Go.{go, acted, act, accessed, Does, Makes}
+use Rattle.run_model.specs.Run.{run, order_of}
 use Rattle.run_model.proofs.Runs.{run-push}
 use Rattle.memory_model.specs.Access.{load_in, store_in, range_in}
 use Rattle.mpc_top.specs.declared.one_task.OneTask.{OneTask}

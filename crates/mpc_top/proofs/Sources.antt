@@ -1,11 +1,9 @@
 -- What is told of a source.
-use Rattle.std.proofs.Common.{◌≡◌, ℕ, List, Option, Some, None, IfSome, refl, sym, subst}
-use Rattle.mpc_base.specs.Causes.{Rose}
+use Rattle.std.proofs.Common.{◌≡◌, ℕ, List, Option, Some, None, IfSome, sym, subst}
 use Rattle.mpc_base.specs.Told.{Store, content_of}
 use Rattle.mpc_top.specs.declared.refusals.Refusal.{Refusal}
 use Rattle.mpc_top.specs.declared.refusals.Refusal.TheVariants.{Usage, ReadFault, Missing, NotBuilt, Memory}
 use Rattle.mpc_top.specs.Command.{NamesSource}
-use Rattle.mpc_top.specs.Answers.{OfSource}
 use Rattle.mpc_top.specs.Refusals.{Holds, RefusesRead}
 
 -- a read that gave no source refuses for the cause that holds

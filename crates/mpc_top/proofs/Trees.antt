@@ -1,9 +1,9 @@
 -- The trees of a first source's statements.
-use Rattle.std.proofs.Common.{◌≡◌, ℕ, ℤ, zero, suc, ◌+◌, ◌-◌, ◌*◌, ◌<◌, ◌≤◌, List, [], ◌∷◌, ◌++◌, length, map, take, drop, get_or, refl, sym, ap, ◌∙◌, subst, Option, Some, None, arith, add-one, drop-cons, append_assoc}
-use Rattle.c_tree.specs.declared.trees.Expr.{Expr, Number, Global, Assign', Printf'}
+use Rattle.std.proofs.Common.{◌≡◌, ℕ, zero, suc, ◌+◌, ◌<◌, List, [], ◌∷◌, ◌++◌, length, map, drop, get_or, refl, ap, arith, add-one, drop-cons, append_assoc}
+use Rattle.c_tree.specs.declared.trees.Expr.{Global, Printf'}
 use Rattle.c_tree.specs.declared.trees.Stmt.{Stmt}
-use Rattle.c_tree.specs.declared.trees.Stmt.TheVariants.{Eval, Return}
-use Rattle.mpc_top.specs.FirstSource.{Statement, Sets, Prints, IsFormat, PrintsVariable, AssignsNumber, StatementIs, BodyIs, ReturnsZero, said}
+use Rattle.c_tree.specs.declared.trees.Stmt.TheVariants.{Eval}
+use Rattle.mpc_top.specs.FirstSource.{Statement, IsFormat, PrintsVariable, StatementIs, BodyIs}
 
 -- a text that is no format is printed by no tree
 pub prints_none : (line variable : ℕ) (text : List ℕ) → ((p : List ℕ × List ℕ) → IsFormat text p.0 p.1 → ⊥) → (tree : Stmt) → PrintsVariable line text variable tree → ⊥

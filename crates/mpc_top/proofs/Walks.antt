@@ -1,24 +1,23 @@
 -- What main asks while its statements are walked, and that the walk goes on.
-use Rattle.std.proofs.Common.{◌≡◌, ℕ, ℤ, pos, suc, ◌+◌, ◌≤◌, ◌<◌, List, [], ◌∷◌, ◌++◌, length, drop, slice_set, refl, sym, ap, ◌∙◌, subst, Option, Some, None, FitsSigned, arith, append_assoc, append-nil, length-append}
+use Rattle.std.proofs.Common.{◌≡◌, ℕ, ℤ, pos, ◌+◌, ◌≤◌, List, [], ◌∷◌, ◌++◌, length, drop, slice_set, sym, ap, ◌∙◌, None, FitsSigned, arith, append_assoc, append-nil, length-append}
 use Rattle.std.specs.Fmt.{signed_decimal}
 use Rattle.std.specs.Int.{w32, int_wrap}
 use Rattle.std.proofs.lemmas.Int.{int_wrap_fits}
 use Rattle.std.proofs.lemmas.Fmt.{length_signed_le}
-use Rattle.mpc_base.specs.declared.values.Word.{Word}
 use Rattle.mpc_base.specs.declared.values.Word.TheVariants.{Int}
 use Rattle.mpc_base.specs.declared.calls.Call.TheVariants.{Load, Store, Print, Finish}
 use Rattle.mpc_base.specs.declared.calls.Answer.{Answer}
 use Rattle.mpc_base.specs.declared.calls.Answer.TheVariants.{Done, Gives}
-use Rattle.c_tree.specs.declared.trees.Expr.{Expr, Number, Global, Assign', Printf'}
+use Rattle.c_tree.specs.declared.trees.Expr.{Number, Global, Assign', Printf'}
 use Rattle.c_tree.specs.declared.trees.Stmt.{Stmt}
 use Rattle.c_tree.specs.declared.trees.Stmt.TheVariants.{Eval, Return}
 use Rattle.c_tree.specs.Numbers.{int_of}
-use Rattle.c_tree.specs.Asking.{Next, Asks, State, fits, asked}
+use Rattle.c_tree.specs.Asking.{Asks, fits}
 use Rattle.c_tree.specs.Meaning.{next, run, finish_main, place_of, printed}
 use Rattle.run_model.specs.declared.records.Setup.{Setup}
 use Rattle.mpc_top.specs.declared.one_task.OneTask.{OneTask}
 use Rattle.mpc_top.specs.OneTask.{IsRun, answers_in}
-use Rattle.mpc_top.specs.Walking.{GoesOn, Walks, AreInts}
+use Rattle.mpc_top.specs.Walking.{GoesOn, Walks}
 use Rattle.mpc_top.specs.Outputs.{most_output}
 use Rattle.mpc_top.specs.Plain.{AssignsAt, PrintsNext, ReturnsNext}
 use Rattle.mpc_top.proofs.OneTaskSteps.{ints_set}

@@ -1,5 +1,5 @@
 -- What the top call answers, and what each answer says.
-use Rattle.std.specs.Prelude.{◌≡◌, ◌≢◌, ℕ, ◌≤◌, ◌<◌, List, [], ◌∷◌, ◌++◌, length, codes, Option, Some, None, IfSome, Bool, true, false, ◌==◌, if◌then◌else◌}
+use Rattle.std.specs.Prelude.{◌≡◌, ℕ, List, [], ◌∷◌, codes, Option, Some, None, IfSome, Bool, true, false, ◌==◌, if◌then◌else◌}
 use Rattle.std.specs.List.{list_any}
 use Rattle.mpc_base.specs.Causes.{Rose}
 use Rattle.mpc_base.specs.Told.{Store, content_of, Took, TookPrefix}
@@ -9,7 +9,7 @@ use Rattle.mpc_base.specs.declared.journals.End.TheVariants as end
 use Rattle.run_model.specs.declared.records.RunRecord.{RunRecord}
 use Rattle.run_model.specs.Run.{RecordsRun, status_of}
 use Rattle.mpc_top.specs.FirstSource.{FirstSource, NotFirst}
-use Rattle.mpc_top.specs.Command.{NamesSource, NamesNone}
+use Rattle.mpc_top.specs.Command.{NamesSource}
 
 abbrev pub usage_line : List ℕ
 usage_line = codes "mpc: usage\n"

@@ -5,7 +5,7 @@
 --
 -- with decimal numbers without a suffix. A declared name is no key, not main, no known name, and declared once; a
 -- used name is declared; a text has one %d and no other %. The source has at most 16,384 bytes.
-use Rattle.std.specs.Prelude.{◌≡◌, ℕ, ℤ, pos, ◌-◌, ◌≤◌, Bool, true, false, not, ◌&&◌, ◌||◌, ◌==◌, cond, if◌then◌else◌, List, [], ◌∷◌, ◌++◌, length, take, drop, map, position, codes, IsTrue, FitsSigned, Option, Some, None}
+use Rattle.std.specs.Prelude.{◌≡◌, ℕ, ℤ, pos, ◌-◌, ◌≤◌, Bool, true, false, not, ◌&&◌, ◌==◌, if◌then◌else◌, List, [], ◌∷◌, ◌++◌, length, take, drop, map, position, codes, FitsSigned, Option, Some, None}
 use Rattle.std.specs.List.{list_all, list_any}
 use Rattle.std.specs.Str.{bytes_eq}
 use Rattle.std.specs.Char.{is_ascii_digit}
@@ -16,7 +16,7 @@ use Rattle.c_lex.specs.declared.tokens.Token.{Token}
 use Rattle.c_lex.specs.declared.tokens.Kind.{Kind}
 use Rattle.c_lex.specs.declared.tokens.Kind.TheVariants as kind
 use Rattle.c_lex.specs.Lexed.{Lexed}
-use Rattle.c_tree.specs.declared.trees.Expr.{Expr, Number, Global, Assign', Printf'}
+use Rattle.c_tree.specs.declared.trees.Expr.{Number, Global, Assign', Printf'}
 use Rattle.c_tree.specs.declared.trees.Stmt.{Stmt}
 use Rattle.c_tree.specs.declared.trees.Stmt.TheVariants.{Eval, Return}
 use Rattle.c_tree.specs.declared.trees.Program.{Program}

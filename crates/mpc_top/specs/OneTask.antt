@@ -1,5 +1,5 @@
 -- The state of a run of one task, as the world of the definitions.
-use Rattle.std.specs.Prelude.{◌≡◌, ℕ, ◌+◌, List, [], ◌∷◌, ◌++◌, Option, Some, None}
+use Rattle.std.specs.Prelude.{◌≡◌, ℕ, ◌+◌, List, [], ◌∷◌, ◌++◌, None}
 use Rattle.std.specs.FinMap as map
 use Rattle.mpc_base.specs.declared.values.Word.{Word}
 use Rattle.mpc_base.specs.declared.values.Obj.TheVariants.{Glob}

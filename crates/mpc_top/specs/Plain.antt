@@ -1,7 +1,7 @@
 -- The trees of first sources, apart from their source.
 use Rattle.std.specs.Prelude.{◌≡◌, ℕ, ℤ, pos, ◌<◌, ◌≤◌, List, [], ◌∷◌, length, map, FitsSigned}
 use Rattle.std.specs.Int.{w32}
-use Rattle.c_tree.specs.declared.trees.Expr.{Expr, Number, Global, Assign', Printf'}
+use Rattle.c_tree.specs.declared.trees.Expr.{Number, Global, Assign', Printf'}
 use Rattle.c_tree.specs.declared.trees.Stmt.{Stmt}
 use Rattle.c_tree.specs.declared.trees.Stmt.TheVariants.{Eval, Return}
 use Rattle.c_tree.specs.declared.trees.Program.{Program}

@@ -1,11 +1,10 @@
 -- What holds while the statements of main are walked.
-use Rattle.std.specs.Prelude.{◌≡◌, ℕ, ℤ, ◌+◌, ◌≤◌, List, [], ◌∷◌, ◌++◌, length, FitsSigned, Option, Some, None}
+use Rattle.std.specs.Prelude.{◌≡◌, ◌+◌, ◌≤◌, List, [], ◌∷◌, ◌++◌, length, FitsSigned, None}
 use Rattle.std.specs.Int.{w32}
 use Rattle.mpc_base.specs.declared.values.Word.{Word}
 use Rattle.mpc_base.specs.declared.values.Word.TheVariants.{Undef, Int, Null, Ptr, Comm, Req}
 use Rattle.mpc_base.specs.declared.calls.Answer.{Answer}
 use Rattle.c_tree.specs.declared.trees.Stmt.{Stmt}
-use Rattle.c_tree.specs.Asking.{Next}
 use Rattle.c_tree.specs.Meaning.{next, run, finish_main}
 use Rattle.run_model.specs.declared.records.Setup.{Setup}
 use Rattle.mpc_top.specs.declared.one_task.OneTask.{OneTask}

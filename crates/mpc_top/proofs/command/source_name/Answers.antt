@@ -1,4 +1,4 @@
-use Rattle.std.proofs.Common.{◌≡◌, string_bytes, codes, sym, ◌∙◌}
+use Rattle.std.proofs.Common.{string_bytes, codes, sym, ◌∙◌}
 use Rattle.mpc_top.proofs.Commands.{two_words, not_other}
 use Rattle.mpc_top.proofs.command.source_name.Goals as goal
 

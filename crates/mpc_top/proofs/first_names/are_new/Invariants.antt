@@ -1,4 +1,4 @@
-use Rattle.std.proofs.Common.{◌≡◌, List, [], map, take, drop}
+use Rattle.std.proofs.Common.{◌≡◌, [], map, take, drop}
 use Rattle.mpc_top.specs.FirstSource.{are_new, token_text}
 use Rattle.mpc_top.proofs.first_names.are_new.Given as goal
 

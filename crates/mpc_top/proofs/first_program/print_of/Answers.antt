@@ -1,4 +1,3 @@
-use Rattle.std.proofs.Common.{sym, ◌∙◌}
 use Rattle.mpc_top.specs.FirstSource.{said}
 use Rattle.mpc_top.proofs.Trees.{prints_none}
 use Rattle.mpc_top.proofs.first_program.print_of.Goals as goal

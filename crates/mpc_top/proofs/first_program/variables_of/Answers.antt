@@ -1,4 +1,4 @@
-use Rattle.std.proofs.Common.{◌∙◌, ◌≡◌, ◌++◌, map, sym, arith}
+use Rattle.std.proofs.Common.{◌∙◌, ◌≡◌, map, sym, arith}
 use Rattle.std.proofs.lemmas.Grind.{common_steps}
 use Rattle.c_lex.specs.declared.tokens.Kind.TheVariants as kind
 use Rattle.mpc_top.specs.FirstSource.{token_text, int_variable}

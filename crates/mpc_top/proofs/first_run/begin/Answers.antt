@@ -1,4 +1,4 @@
-use Rattle.std.proofs.Common.{◌≡◌, length, sym, ap, ◌∙◌, refl, map, pos}
+use Rattle.std.proofs.Common.{ap, ◌∙◌, refl, map, pos}
 use Rattle.mpc_base.specs.declared.values.Word.TheVariants.{Int}
 use Rattle.mpc_top.proofs.Begins.{begins, plain_begins}
 use Rattle.mpc_top.proofs.first_run.begin.Goals as goal

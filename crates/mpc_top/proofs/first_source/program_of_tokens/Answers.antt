@@ -2,7 +2,7 @@ use Rattle.std.proofs.Common.{◌≡◌, true, [], sym, subst, arith}
 use Rattle.std.proofs.lemmas.List.{length-map}
 use Rattle.mpc_top.specs.FirstSource.{pieces_of, token_text, FirstUnit, Spells, FirstPieces, IsProgram, are_new}
 use Rattle.mpc_top.specs.ReaderSeen.{unit_seen}
-use Rattle.mpc_top.proofs.OutputBounds.{tokens_texts, names_few, output_short, texts}
+use Rattle.mpc_top.proofs.OutputBounds.{tokens_texts, names_few, output_short}
 use Rattle.mpc_top.proofs.first_source.program_of_tokens.Goals as goal
 
 pub returns-in_default-clause-program : goal.returns-in_default-clause-program

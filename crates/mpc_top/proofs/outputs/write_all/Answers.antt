@@ -1,5 +1,4 @@
-use Rattle.std.proofs.Common.{◌≡◌, ◌≤◌, arith, drop, sym, ap, length}
-use Rattle.mpc_top.specs.Sent.{Sent}
+use Rattle.std.proofs.Common.{arith}
 use Rattle.mpc_top.proofs.SentLemmas.{Sent-more}
 use Rattle.mpc_top.proofs.outputs.write_all.Goals as goal
 

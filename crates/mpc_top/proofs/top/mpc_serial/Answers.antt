@@ -1,4 +1,3 @@
-use Rattle.std.proofs.Common.{◌≡◌}
 use Rattle.mpc_top.proofs.Completeness.{complete}
 use Rattle.mpc_top.proofs.top.mpc_serial.Goals as goal
 

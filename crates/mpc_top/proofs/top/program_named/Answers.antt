@@ -1,4 +1,3 @@
-use Rattle.std.proofs.Common.{◌≡◌, map, string_bytes}
 use Rattle.mpc_top.specs.FirstSource.{NotFirst, FirstSource}
 use Rattle.mpc_top.specs.Answers.{IsNotFirst}
 use Rattle.mpc_top.proofs.Sources.{of_content}

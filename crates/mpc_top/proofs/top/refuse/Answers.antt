@@ -1,4 +1,3 @@
-use Rattle.std.proofs.Common.{◌≡◌, sym, ap}
 use Rattle.mpc_top.proofs.Lines.{wrote_line}
 use Rattle.mpc_top.proofs.top.refuse.Goals as goal
 

@@ -4,7 +4,7 @@ use Rattle.std.proofs.lemmas.Int.{to_z-of_z}
 use Rattle.std.proofs.Math.Facts.{sfits_widen}
 use Rattle.c_tree.specs.Meaning.{printed}
 use Rattle.mpc_top.specs.OneTask.{answers_in}
-use Rattle.mpc_top.proofs.Walks.{load_asks, print_asks, print_fits, print_walks}
+use Rattle.mpc_top.proofs.Walks.{load_asks, print_fits, print_walks}
 use Rattle.mpc_top.proofs.walking.print.Goals as goal
 
 pub load-requires-clause-asks : goal.load-requires-clause-asks

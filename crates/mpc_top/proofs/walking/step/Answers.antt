@@ -1,8 +1,8 @@
-use Rattle.std.proofs.Common.{◌≡◌, ◌<◌, length, sym, ap, ◌∙◌, FitsSigned, to_z, of_z, subst, arith}
+use Rattle.std.proofs.Common.{◌≡◌, length, ◌∙◌, FitsSigned, subst, arith}
 use Rattle.std.proofs.Math.Facts.{sfits_widen}
 use Rattle.std.specs.Int.{w32, w64}
 use Rattle.std.proofs.lemmas.Int.{to_z-of_z}
-use Rattle.mpc_top.proofs.PlainBodies.{first_plain, rest_plain, assigned, prints, neither}
+use Rattle.mpc_top.proofs.PlainBodies.{first_plain, assigned, prints, neither}
 use Rattle.mpc_top.proofs.walking.step.Goals as goal
 
 pub unreachable-requires : goal.unreachable-requires

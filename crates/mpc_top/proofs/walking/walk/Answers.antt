@@ -1,4 +1,4 @@
-use Rattle.std.proofs.Common.{◌≡◌, ◌≤◌, length, sym, arith}
+use Rattle.std.proofs.Common.{length, arith}
 use Rattle.std.proofs.lemmas.List.{take_rest}
 use Rattle.mpc_top.proofs.PlainBodies.{none_left, next_rest}
 use Rattle.mpc_top.proofs.walking.walk.Goals as goal

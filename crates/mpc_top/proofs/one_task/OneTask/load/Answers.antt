@@ -1,10 +1,10 @@
-use Rattle.std.proofs.Common.{◌≡◌, refl, ap, sym, ◌∙◌, subst, FitsSigned, arith, get_or, ℤ, to_z, of_z}
+use Rattle.std.proofs.Common.{◌≡◌, refl, ap, sym, ◌∙◌, FitsSigned, get_or, ℤ, to_z, of_z}
 use Rattle.std.specs.Int.{w32, w64}
 use Rattle.std.proofs.lemmas.Int.{to_z-of_z}
 use Rattle.std.proofs.Math.Facts.{sfits_widen}
 use Rattle.mpc_base.specs.declared.calls.Call.TheVariants.{Load}
 use Rattle.mpc_base.specs.declared.calls.Answer.TheVariants.{Gives}
-use Rattle.mpc_base.specs.declared.values.Word.TheVariants.{Int, Undef}
+use Rattle.mpc_base.specs.declared.values.Word.TheVariants.{Int}
 use Rattle.c_tree.specs.Meaning.{place_of}
 use Rattle.mpc_top.specs.OneTask.{task_seen, answers_in}
 use Rattle.mpc_top.proofs.OneTaskSteps.{moved, answers_in-append, load_does, int_at}

@@ -1,4 +1,4 @@
-use Rattle.std.proofs.Common.{◌≡◌, refl, ap, sym, ◌∙◌}
+use Rattle.std.proofs.Common.{refl, ap, ◌∙◌}
 use Rattle.mpc_base.specs.declared.calls.Call.TheVariants.{Store}
 use Rattle.mpc_base.specs.declared.calls.Answer.TheVariants.{Done}
 use Rattle.mpc_base.specs.declared.values.Word.TheVariants.{Int, Undef}
