@@ -1,0 +1,7 @@
+//! The directives that share variables: what stands behind `#pragma` in a line.
+#![tactic(auto)]
+
+mod directives;
+mod items;
+
+pub use directives::{NameSpan, Names, Pragma, PragmaRefusal};
