@@ -3,5 +3,6 @@
 
 mod directives;
 mod items;
+mod reader;
 
 pub use directives::{NameSpan, Names, Pragma, PragmaRefusal};
