@@ -1,6 +1,5 @@
 -- Which directive a line says.
 use Rattle.std.specs.Prelude.{◌≡◌, ℕ, Bool, true, false, ◌⊎◌, List, [], ◌∷◌, ◌++◌, take, drop, codes, slice_index}
-use Rattle.std.specs.Str.{bytes_eq}
 use Rattle.mpc_base.specs.declared.owners.Level.{Level}
 use Rattle.mpc_base.specs.declared.owners.Level.TheVariants as level
 use Rattle.hls_pragma.specs.declared.directives.NameSpan.{NameSpan}
@@ -8,11 +7,8 @@ use Rattle.hls_pragma.specs.declared.directives.Pragma.{Pragma}
 use Rattle.hls_pragma.specs.declared.directives.Pragma.TheVariants.{Scope, Single, Barrier, Foreign}
 use Rattle.hls_pragma.specs.declared.items.Item.{Item}
 use Rattle.hls_pragma.specs.declared.items.Item.TheVariants.{Word, Open, Comma, Close, Other}
+use Rattle.hls_pragma.specs.Front.{word_is, begins_hls}
 use Rattle.hls_pragma.specs.Items.{is_letter, items_of}
-
--- the bytes of a word
-abbrev pub text_of : List ℕ → NameSpan → List ℕ
-text_of line w = take w.len (drop w.start line)
 
 -- names with commas between them
 abbrev pub listed : List NameSpan → List Item
@@ -34,24 +30,19 @@ level_text level.L3 = codes "l3"
 level_text level.Numa = codes "numa"
 level_text level.Node = codes "node"
 
--- the first word is hls
-abbrev pub begins_hls : List ℕ → List Item → Bool
-begins_hls line (Word w ∷ rest) = bytes_eq (text_of line w) (codes "hls")
-begins_hls line rest = false
-
 -- hls, this word, the names in brackets and then the rest
 pub record Lists (line word : List ℕ) (names : List NameSpan) (rest : List Item) : Type 0 where
   pub first : NameSpan
   pub second : NameSpan
   pub items : items_of 0 0 0 line ≡ Word first ∷ Word second ∷ Open ∷ (listed names ++ Close ∷ rest)
-  pub hls : text_of line first ≡ codes "hls"
-  pub named : text_of line second ≡ word
+  pub hls : word_is line first (codes "hls") ≡ true
+  pub named : word_is line second word ≡ true
   pub are_names : AreNames line names
 
 -- nowait, or nothing
 abbrev pub IsEnd : List ℕ → Bool → List Item → Type 0
 IsEnd line false rest = rest ≡ []
-IsEnd line true rest = (w : NameSpan) × (rest ≡ Word w ∷ []) × (text_of line w ≡ codes "nowait")
+IsEnd line true rest = (w : NameSpan) × (rest ≡ Word w ∷ []) × (word_is line w (codes "nowait") ≡ true)
 
 -- the line says this directive
 abbrev pub Reads : List ℕ → Pragma → Type 0

@@ -6,3 +6,4 @@ mod items;
 mod reader;
 
 pub use directives::{NameSpan, Names, Pragma, PragmaRefusal};
+pub use reader::read_pragma;
