@@ -7,10 +7,10 @@ use Rattle.hls_pragma.specs.declared.items.Item.TheVariants.{Word, Open, Comma, 
 use Rattle.hls_pragma.specs.Reads.{listed, AreNames}
 use Rattle.hls_pragma.specs.Front.{begins_name, one_more, names_at}
 
-if_true : {A : Type 0} (b : Bool) (x y : A) → b ≡ true → cond b x y ≡ x
+pub if_true : {A : Type 0} (b : Bool) (x y : A) → b ≡ true → cond b x y ≡ x
 if_true b x y e = rw e refl
 
-bool_cases : (P : Bool → Type 0) (b : Bool) → (b ≡ true → P true) → (b ≡ false → P false) → P b
+pub bool_cases : (P : Bool → Type 0) (b : Bool) → (b ≡ true → P true) → (b ≡ false → P false) → P b
 bool_cases P true t f = t refl
 bool_cases P false t f = f refl
 
@@ -27,7 +27,7 @@ longer : (line : List ℕ) (n : NameSpan) (items : List Item) (ns : List NameSpa
 longer line n items [] rest b h = absurd h.names
 longer line n items (m ∷ ns) rest b h = record { is = ap (λ l. Word n ∷ Comma ∷ l) h.is; names = (b, h.names) }
 
-map_some : {A B : Type 0} (f : A → B) (o : Option A) (y : B) → option_map f o ≡ Some y → (x : A) × (o ≡ Some x) × (f x ≡ y)
+pub map_some : {A B : Type 0} (f : A → B) (o : Option A) (y : B) → option_map f o ≡ Some y → (x : A) × (o ≡ Some x) × (f x ≡ y)
 map_some f None y e = cc
 map_some f (Some x) y e = let h : f x ≡ y = cc in (x, refl, h)
 

@@ -1,0 +1,29 @@
+use Rattle.std.proofs.Common.{◌≡◌, ◌∙◌, sym, ap, true}
+use Rattle.hls_pragma.specs.Items.{items_of}
+use Rattle.hls_pragma.specs.Front.{begins_hls}
+use Rattle.hls_pragma.proofs.Readings.{reads_it, one_reading, no_reading}
+use Rattle.hls_pragma.proofs.reader.read_pragma.Goals as goal
+
+pub returns-in-Some-clause-reads : goal.returns-in-Some-clause-reads
+returns-in-Some-clause-reads c =
+    let line = c.args.line.now in
+    let items = c.as_slice-2.result.now in
+    let e : items ≡ items_of 0 0 0 line = c.as_slice-2.ensures.value ∙ c.in_ok-items.ensures in
+    let b : begins_hls line items ≡ true = ap (begins_hls line) (c.as_slice-2.ensures.value ∙ sym c.as_slice.ensures.value) ∙ sym c.if-not-begins_hls.ensures in
+    reads_it line items c.in-Some.pragma e b (sym c.in_ok-pragma.ensures ∙ c.in-Some.is)
+
+pub returns-in-Some-clause-only : goal.returns-in-Some-clause-only
+returns-in-Some-clause-only c =
+    let line = c.args.line.now in
+    let items = c.as_slice-2.result.now in
+    let e : items ≡ items_of 0 0 0 line = c.as_slice-2.ensures.value ∙ c.in_ok-items.ensures in
+    let b : begins_hls line items ≡ true = ap (begins_hls line) (c.as_slice-2.ensures.value ∙ sym c.as_slice.ensures.value) ∙ sym c.if-not-begins_hls.ensures in
+    λ q h. one_reading line c.in-Some.pragma q (reads_it line items c.in-Some.pragma e b (sym c.in_ok-pragma.ensures ∙ c.in-Some.is)) h
+
+pub returns-clause-refused : goal.returns-clause-refused
+returns-clause-refused c =
+    let line = c.args.line.now in
+    let items = c.as_slice-2.result.now in
+    let e : items ≡ items_of 0 0 0 line = c.as_slice-2.ensures.value ∙ c.in_ok-items.ensures in
+    let b : begins_hls line items ≡ true = ap (begins_hls line) (c.as_slice-2.ensures.value ∙ sym c.as_slice.ensures.value) ∙ sym c.if-not-begins_hls.ensures in
+    λ q h. no_reading line items q e b (sym c.in_ok-pragma.ensures ∙ c.in-None.is) h
