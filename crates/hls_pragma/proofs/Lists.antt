@@ -10,6 +10,9 @@ use Rattle.hls_pragma.specs.Front.{begins_name, one_more, names_at}
 pub if_true : {A : Type 0} (b : Bool) (x y : A) → b ≡ true → cond b x y ≡ x
 if_true b x y e = rw e refl
 
+pub if_false : {A : Type 0} (b : Bool) (x y : A) → b ≡ false → cond b x y ≡ y
+if_false b x y e = rw e refl
+
 pub bool_cases : (P : Bool → Type 0) (b : Bool) → (b ≡ true → P true) → (b ≡ false → P false) → P b
 bool_cases P true t f = t refl
 bool_cases P false t f = f refl

@@ -14,7 +14,9 @@ use Rattle.hls_pragma.specs.declared.items.Item.TheVariants.{Word, Open, Comma, 
 use Rattle.hls_pragma.specs.Items.{items_of}
 use Rattle.hls_pragma.specs.Front.{word_is, begins_hls, names_at, level_at, is_nowait, end_at, scope_of, closed_of, pragma_of, listed_at, headed_at, directive_at, pragma_at}
 use Rattle.hls_pragma.specs.Reads.{listed, AreNames, level_text, Lists, IsEnd, Reads}
-use Rattle.hls_pragma.proofs.Lists.{if_true, bool_cases, map_some, names_are, Listed, names_listed}
+use Rattle.hls_pragma.specs.Cuts.{Cut}
+use Rattle.hls_pragma.proofs.CutSteps.{cut_is, cut_of}
+use Rattle.hls_pragma.proofs.Lists.{if_true, if_false, bool_cases, map_some, names_are, Listed, names_listed}
 
 -- a word with one text has no other
 other_text : (line : List ℕ) (w : NameSpan) (a b : List ℕ) → word_is line w a ≡ true → bytes_eq a b ≡ false → word_is line w b ≡ false
@@ -23,9 +25,6 @@ other_text line w a b e f = bool_cases (λ x. nat_le w.start (length line) ≡ x
         (λ _ _ k. subst (λ t. bytes_eq t b ≡ false) (sym ((bytes_eq-Decides (take w.len (drop w.start line)) a).0 k)) f)
         (λ _ _ k. refl) refl g)
     (λ _ _ g. refl) refl e
-
-if_false : {A : Type 0} (b : Bool) (x y : A) → b ≡ false → cond b x y ≡ y
-if_false b x y e = rw e refl
 
 -- each level's word is read as that level
 level_read : (line : List ℕ) (w : NameSpan) (l : Level) → word_is line w (level_text l) ≡ true → level_at line w ≡ Some l
@@ -78,7 +77,7 @@ no_barrier level.Node = refl
 -- what stands behind hls and a word
 from_lists : (line word : List ℕ) (names : List NameSpan) (rest : List Item) (h : Lists line word names rest) → pragma_at line (items_of 0 0 0 line) ≡ pragma_of line h.second names rest
 from_lists line word names rest h =
-    ap (pragma_at line) h.items
+    ap (pragma_at line) (sym (cut_is h.items 0))
     ∙ (if_true _ _ _ h.hls
     ∙ ap (listed_at line h.second) (names_are line names rest h.are_names))
 
@@ -98,7 +97,7 @@ read_as line (Single names nowait) h =
 read_as line (Barrier names) h =
     from_lists line (codes "barrier") names [] h
     ∙ (if_false _ _ _ (other_text line h.second (codes "barrier") (codes "single") h.named refl) ∙ if_true _ _ _ h.named)
-read_as line Foreign h = if_false _ _ _ h
+read_as line Foreign h = ap (pragma_at line) (sym (cut_is h.1 0)) ∙ if_false _ _ _ h.2
 
 pub one_reading : (line : List ℕ) (p q : Pragma) → Reads line p → Reads line q → q ≡ p
 one_reading line p q h k = some_of q p (sym (read_as line q k) ∙ read_as line p h)
@@ -117,7 +116,7 @@ end_said line (i ∷ j ∷ rest) nowait e = cc
 -- hls, a word, names and what stands behind them, in the line's items
 record Headed (line : List ℕ) (w : NameSpan) (names : List NameSpan) (behind : List Item) : Type 0 where
   pub first : NameSpan
-  pub items : items_of 0 0 0 line ≡ Word first ∷ Word w ∷ Open ∷ (listed names ++ Close ∷ behind)
+  pub items : Cut 0 line (Word first ∷ Word w ∷ Open ∷ (listed names ++ Close ∷ behind))
   pub hls : word_is line first (codes "hls") ≡ true
   pub are_names : AreNames line names
 
@@ -148,13 +147,13 @@ reads_pragma line w names behind p h e = bool_cases (λ b. word_is line w (codes
       subst (Reads line) m.2 (behind, lists_it line (codes "single") w names behind h b, end_said line behind m.0 m.1))
     (λ _ b g. reads_behind line w names behind p h g) refl e
 
-reads_listed : (line : List ℕ) (h w : NameSpan) (rest : List Item) (p : Pragma) → items_of 0 0 0 line ≡ Word h ∷ Word w ∷ Open ∷ rest → word_is line h (codes "hls") ≡ true → (o : Option (List NameSpan × List Item)) → names_at line rest ≡ o → listed_at line w o ≡ Some p → Reads line p
+reads_listed : (line : List ℕ) (h w : NameSpan) (rest : List Item) (p : Pragma) → Cut 0 line (Word h ∷ Word w ∷ Open ∷ rest) → word_is line h (codes "hls") ≡ true → (o : Option (List NameSpan × List Item)) → names_at line rest ≡ o → listed_at line w o ≡ Some p → Reads line p
 reads_listed line h w rest p e b None f g = cc
 reads_listed line h w rest p e b (Some q) f g =
     let l = names_listed line rest q.0 q.1 f in
-    reads_pragma line w q.0 q.1 p (record { first = h; items = e ∙ ap (λ r. Word h ∷ Word w ∷ Open ∷ r) l.is; hls = b; are_names = l.names }) g
+    reads_pragma line w q.0 q.1 p (record { first = h; items = subst (λ r. Cut 0 line (Word h ∷ Word w ∷ Open ∷ r)) l.is e; hls = b; are_names = l.names }) g
 
-reads_directive : (line : List ℕ) (items : List Item) (p : Pragma) → items_of 0 0 0 line ≡ items → begins_hls line items ≡ true → directive_at line items ≡ Some p → Reads line p
+reads_directive : (line : List ℕ) (items : List Item) (p : Pragma) → Cut 0 line items → begins_hls line items ≡ true → directive_at line items ≡ Some p → Reads line p
 reads_directive line [] p e b g = cc
 reads_directive line (h ∷ []) p e b g = cc
 reads_directive line (h ∷ i ∷ []) p e b g = cc
@@ -172,8 +171,12 @@ reads_directive line (Comma ∷ i ∷ j ∷ rest) p e b g = cc
 reads_directive line (Close ∷ i ∷ j ∷ rest) p e b g = cc
 reads_directive line (Other ∷ i ∷ j ∷ rest) p e b g = cc
 
+-- what is worked out is what the line is cut into
+cut_here : (line : List ℕ) (items : List Item) → items ≡ items_of 0 0 0 line → Cut 0 line items
+cut_here line items e = subst (Cut 0 line) (sym e) (cut_of line)
+
 pub reads_it : (line : List ℕ) (items : List Item) (p : Pragma) → items ≡ items_of 0 0 0 line → begins_hls line items ≡ true → directive_at line items ≡ Some p → Reads line p
-reads_it line items p e b g = reads_directive line items p (sym e) b g
+reads_it line items p e b g = reads_directive line items p (cut_here line items e) b g
 
 -- where nothing is read the relation says nothing
 pub no_reading : (line : List ℕ) (items : List Item) (p : Pragma) → items ≡ items_of 0 0 0 line → begins_hls line items ≡ true → directive_at line items ≡ None → Reads line p → ⊥
@@ -182,4 +185,4 @@ no_reading line items p e b g h =
     let k : pragma_at line items ≡ Some p = ap (pragma_at line) e ∙ read_as line p h in cc
 
 pub foreign_it : (line : List ℕ) (items : List Item) → items ≡ items_of 0 0 0 line → begins_hls line items ≡ false → Reads line Foreign
-foreign_it line items e b = ap (begins_hls line) (sym e) ∙ b
+foreign_it line items e b = (items, cut_here line items e, b)

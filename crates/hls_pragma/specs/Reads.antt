@@ -7,8 +7,9 @@ use Rattle.hls_pragma.specs.declared.directives.Pragma.{Pragma}
 use Rattle.hls_pragma.specs.declared.directives.Pragma.TheVariants.{Scope, Single, Barrier, Foreign}
 use Rattle.hls_pragma.specs.declared.items.Item.{Item}
 use Rattle.hls_pragma.specs.declared.items.Item.TheVariants.{Word, Open, Comma, Close, Other}
+use Rattle.hls_pragma.specs.Cuts.{Cut}
 use Rattle.hls_pragma.specs.Front.{word_is, begins_hls}
-use Rattle.hls_pragma.specs.Items.{is_letter, items_of}
+use Rattle.hls_pragma.specs.Items.{is_letter}
 
 -- names with commas between them
 abbrev pub listed : List NameSpan → List Item
@@ -34,7 +35,7 @@ level_text level.Node = codes "node"
 pub record Lists (line word : List ℕ) (names : List NameSpan) (rest : List Item) : Type 0 where
   pub first : NameSpan
   pub second : NameSpan
-  pub items : items_of 0 0 0 line ≡ Word first ∷ Word second ∷ Open ∷ (listed names ++ Close ∷ rest)
+  pub items : Cut 0 line (Word first ∷ Word second ∷ Open ∷ (listed names ++ Close ∷ rest))
   pub hls : word_is line first (codes "hls") ≡ true
   pub named : word_is line second word ≡ true
   pub are_names : AreNames line names
@@ -49,4 +50,4 @@ abbrev pub Reads : List ℕ → Pragma → Type 0
 Reads line (Scope level names) = Lists line (level_text level) names []
 Reads line (Single names nowait) = (rest : List Item) × Lists line (codes "single") names rest × IsEnd line nowait rest
 Reads line (Barrier names) = Lists line (codes "barrier") names []
-Reads line Foreign = begins_hls line (items_of 0 0 0 line) ≡ false
+Reads line Foreign = (items : List Item) × Cut 0 line items × (begins_hls line items ≡ false)

@@ -7,3 +7,6 @@ mod reader;
 
 pub use directives::{NameSpan, Names, Pragma, PragmaRefusal};
 pub use reader::read_pragma;
+
+#[cfg(test)]
+mod tests;

@@ -1,10 +1,11 @@
 //! Reading a pragma's line.
-ghost use Rattle.std.specs.Prelude.{◌≡◌, IfOk, IfErr, MatchOption};
+ghost use Rattle.std.specs.Prelude.{◌≡◌, length, IfOk, IfErr, MatchOption};
 ghost use Rattle.hls_pragma.specs.declared.directives.Pragma.{Pragma as Reading};
 ghost use Rattle.hls_pragma.specs.Front.{begins_name as name_test, begins_hls as hls_begins, closed_of, directive_at, end_at, headed_at, is_nowait as nowait_test, level_at, listed_at, name_in as name_of, names_at, pragma_of, word_is};
 ghost use Rattle.hls_pragma.specs.declared.directives.Pragma.TheVariants as pragma;
 ghost use Rattle.std.specs.Option.{option_map};
 ghost use Rattle.hls_pragma.specs.Reads.{Reads};
+ghost use Rattle.hls_pragma.specs.Spans.{InOrder, names_of};
 
 use crate::directives::{NameSpan, Names, Pragma, PragmaRefusal};
 use crate::items::{Item, is_letter, items};
@@ -174,6 +175,7 @@ pub fn read_pragma(alloc: Global, line: &[u8]) -> Result<Result<Pragma, PragmaRe
     ensures reads { IfOk result (λ r. IfOk r (Reads line.now)) }
     ensures only { IfOk result (λ r. IfOk r (λ p. (q : Reading) → Reads line.now q → q ≡ p)) }
     ensures refused { IfOk result (λ r. IfErr r (λ _. (q : Reading) → Reads line.now q → ⊥)) }
+    ensures spans { IfOk result (λ r. IfOk r (λ p. InOrder 0 (length line.now) (names_of p))) }
 {
     let items = items(alloc, line)?;
     if !begins_hls(line, items.as_slice()) {
