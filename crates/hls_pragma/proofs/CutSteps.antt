@@ -1,10 +1,9 @@
 -- The items that are worked out are those that the line is cut into, and no others.
-use Rattle.std.proofs.Common.{◌≡◌, ℕ, zero, suc, ◌+◌, ◌<◌, Bool, true, false, cond, nat_eq, List, [], ◌∷◌, ◌++◌, length, refl, sym, ap, ◌∙◌, subst, arith, add-zero, append_assoc}
+use Rattle.std.proofs.Common.{◌≡◌, ℕ, zero, suc, ◌+◌, ◌<◌, true, false, cond, nat_eq, List, [], ◌∷◌, ◌++◌, length, refl, sym, ap, ◌∙◌, subst, arith, add-zero, append_assoc}
 use Rattle.std.proofs.lemmas.Bool.Decides.{nat_tests}
 use Rattle.std.proofs.lemmas.Grind.{common_steps}
-use Rattle.hls_pragma.specs.declared.directives.NameSpan.{NameSpan}
 use Rattle.hls_pragma.specs.declared.items.Item.{Item}
-use Rattle.hls_pragma.specs.declared.items.Item.TheVariants.{Word, Open, Comma, Close, Other}
+use Rattle.hls_pragma.specs.declared.items.Item.TheVariants.{Word}
 use Rattle.hls_pragma.specs.Items.{is_blank, is_word_byte, sign_of, word_of, item_of, items_of}
 use Rattle.hls_pragma.specs.Cuts.{AllInWord, WordEnds, Cut}
 use Rattle.hls_pragma.specs.Cuts as cuts
@@ -96,15 +95,15 @@ found [] s [] h = cuts.over
 found [] s (c ∷ cs) h = cuts.word c cs [] [] refl h tt (one_word s (length (c ∷ cs)) (omega arith)) cuts.over
 found (b ∷ bs) s w h = bool_cases (λ x. is_word_byte b ≡ x → Cut s (w ++ b ∷ bs) (cond x (items_of (s + length w + 1) (cond (nat_eq (length w) 0) (s + length w) s) (length w + 1) bs) (word_of s (length w) ++ (item_of b ++ items_of (s + length w + 1) s 0 bs)))) (is_word_byte b)
     (λ _ e.
-      let l : length (w ++ b ∷ []) ≡ length w + 1 = one_longer w b in
-      let k : s + length (w ++ b ∷ []) ≡ s + length w + 1 = omega (arith, l) in
-      let i : items_of (s + length (w ++ b ∷ [])) s (length (w ++ b ∷ [])) bs ≡ items_of (s + length w + 1) (cond (nat_eq (length w) 0) (s + length w) s) (length w + 1) bs =
-        moved (s + length (w ++ b ∷ [])) (s + length w + 1) s (length (w ++ b ∷ [])) (length w + 1) bs k l ∙ ap (λ t. items_of (s + length w + 1) t (length w + 1) bs) (sym (start_is (length w) s)) in
-      subst (λ t. Cut s (w ++ b ∷ bs) t) i (subst (λ t. Cut s t (items_of (s + length (w ++ b ∷ [])) s (length (w ++ b ∷ [])) bs)) (append_assoc w (b ∷ []) bs) (found bs s (w ++ b ∷ []) (all_more w b h e))))
+    let l : length (w ++ b ∷ []) ≡ length w + 1 = one_longer w b in
+    let k : s + length (w ++ b ∷ []) ≡ s + length w + 1 = omega (arith, l) in
+    let i : items_of (s + length (w ++ b ∷ [])) s (length (w ++ b ∷ [])) bs ≡ items_of (s + length w + 1) (cond (nat_eq (length w) 0) (s + length w) s) (length w + 1) bs =
+    moved (s + length (w ++ b ∷ [])) (s + length w + 1) s (length (w ++ b ∷ [])) (length w + 1) bs k l ∙ ap (λ t. items_of (s + length w + 1) t (length w + 1) bs) (sym (start_is (length w) s)) in
+    subst (λ t. Cut s (w ++ b ∷ bs) t) i (subst (λ t. Cut s t (items_of (s + length (w ++ b ∷ [])) s (length (w ++ b ∷ [])) bs)) (append_assoc w (b ∷ []) bs) (found bs s (w ++ b ∷ []) (all_more w b h e))))
     (λ _ e.
-      let at = s + length w in
-      let i : items_of (at + 1 + 0) (at + 1) 0 bs ≡ items_of (at + 1) s 0 bs = moved (at + 1 + 0) (at + 1) (at + 1) 0 0 bs (add-zero (at + 1)) refl ∙ start_free (at + 1) (at + 1) s bs in
-      ended s w b bs (item_of b ++ items_of (at + 1) s 0 bs) h e (before at b bs (items_of (at + 1) s 0 bs) e (subst (λ t. Cut (at + 1) bs t) i (found bs (at + 1) [] tt)))) refl
+    let at = s + length w in
+    let i : items_of (at + 1 + 0) (at + 1) 0 bs ≡ items_of (at + 1) s 0 bs = moved (at + 1 + 0) (at + 1) (at + 1) 0 0 bs (add-zero (at + 1)) refl ∙ start_free (at + 1) (at + 1) s bs in
+    ended s w b bs (item_of b ++ items_of (at + 1) s 0 bs) h e (before at b bs (items_of (at + 1) s 0 bs) e (subst (λ t. Cut (at + 1) bs t) i (found bs (at + 1) [] tt)))) refl
 
 pub cut_of : (line : List ℕ) → Cut 0 line (items_of 0 0 0 line)
 cut_of line = found line 0 [] tt

@@ -1,5 +1,5 @@
 -- The names that are read are the names that are listed.
-use Rattle.std.proofs.Common.{◌≡◌, ℕ, Bool, true, false, cond, List, [], ◌∷◌, ◌++◌, refl, sym, ap, ◌∙◌, subst, Option, Some, None}
+use Rattle.std.proofs.Common.{◌≡◌, ℕ, Bool, true, false, cond, List, [], ◌∷◌, ◌++◌, refl, ap, ◌∙◌, subst, Option, Some, None}
 use Rattle.std.specs.Option.{option_map}
 use Rattle.hls_pragma.specs.declared.directives.NameSpan.{NameSpan}
 use Rattle.hls_pragma.specs.declared.items.Item.{Item}
@@ -37,17 +37,17 @@ map_some f (Some x) y e = let h : f x ≡ y = cc in (x, refl, h)
 pub names_listed : (line : List ℕ) (items : List Item) (ns : List NameSpan) (rest : List Item) → names_at line items ≡ Some (ns, rest) → Listed line items ns rest
 names_listed line (Word n ∷ Close ∷ items) ns rest e = bool_cases (λ b. begins_name line n ≡ b → ◌≡◌ {A = Option (List NameSpan × List Item)} (cond {A = Option (List NameSpan × List Item)} b (Some (n ∷ [], items)) None) (Some (ns, rest)) → Listed line (Word n ∷ Close ∷ items) ns rest) (begins_name line n)
     (λ _ b g.
-      let q : ◌≡◌ {A = List NameSpan × List Item} (n ∷ [], items) (ns, rest) = cc in
-      let k : n ∷ [] ≡ ns = ap (λ (x : List NameSpan × List Item). x.0) q in
-      let r : items ≡ rest = ap (λ (x : List NameSpan × List Item). x.1) q in
-      subst (λ ns. Listed line (Word n ∷ Close ∷ items) ns rest) k (record { is = ap (λ l. Word n ∷ Close ∷ l) r; names = b }))
+    let q : ◌≡◌ {A = List NameSpan × List Item} (n ∷ [], items) (ns, rest) = cc in
+    let k : n ∷ [] ≡ ns = ap (λ (x : List NameSpan × List Item). x.0) q in
+    let r : items ≡ rest = ap (λ (x : List NameSpan × List Item). x.1) q in
+    subst (λ ns. Listed line (Word n ∷ Close ∷ items) ns rest) k (record { is = ap (λ l. Word n ∷ Close ∷ l) r; names = b }))
     (λ _ b g. cc) refl e
 names_listed line (Word n ∷ Comma ∷ items) ns rest e = bool_cases (λ b. begins_name line n ≡ b → ◌≡◌ {A = Option (List NameSpan × List Item)} (cond {A = Option (List NameSpan × List Item)} b (option_map (one_more n) (names_at line items)) None) (Some (ns, rest)) → Listed line (Word n ∷ Comma ∷ items) ns rest) (begins_name line n)
     (λ _ b g.
-      let m = map_some (one_more n) (names_at line items) (ns, rest) g in
-      let k : n ∷ m.0.0 ≡ ns = ap (λ (x : List NameSpan × List Item). x.0) m.2 in
-      let r : m.0.1 ≡ rest = ap (λ (x : List NameSpan × List Item). x.1) m.2 in
-      subst (λ ns. Listed line (Word n ∷ Comma ∷ items) ns rest) k (subst (λ r. Listed line (Word n ∷ Comma ∷ items) (n ∷ m.0.0) r) r (longer line n items m.0.0 m.0.1 b (names_listed line items m.0.0 m.0.1 m.1))))
+    let m = map_some (one_more n) (names_at line items) (ns, rest) g in
+    let k : n ∷ m.0.0 ≡ ns = ap (λ (x : List NameSpan × List Item). x.0) m.2 in
+    let r : m.0.1 ≡ rest = ap (λ (x : List NameSpan × List Item). x.1) m.2 in
+    subst (λ ns. Listed line (Word n ∷ Comma ∷ items) ns rest) k (subst (λ r. Listed line (Word n ∷ Comma ∷ items) (n ∷ m.0.0) r) r (longer line n items m.0.0 m.0.1 b (names_listed line items m.0.0 m.0.1 m.1))))
     (λ _ b g. cc) refl e
 names_listed line [] ns rest e = cc
 names_listed line (Word n ∷ []) ns rest e = cc

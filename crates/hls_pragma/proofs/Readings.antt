@@ -12,18 +12,18 @@ use Rattle.hls_pragma.specs.declared.directives.Pragma.TheVariants.{Scope, Singl
 use Rattle.hls_pragma.specs.declared.items.Item.{Item}
 use Rattle.hls_pragma.specs.declared.items.Item.TheVariants.{Word, Open, Comma, Close, Other}
 use Rattle.hls_pragma.specs.Items.{items_of}
-use Rattle.hls_pragma.specs.Front.{word_is, begins_hls, names_at, level_at, is_nowait, end_at, scope_of, closed_of, pragma_of, listed_at, headed_at, directive_at, pragma_at}
+use Rattle.hls_pragma.specs.Front.{word_is, begins_hls, names_at, level_at, end_at, scope_of, closed_of, pragma_of, listed_at, directive_at, pragma_at}
 use Rattle.hls_pragma.specs.Reads.{listed, AreNames, level_text, Lists, IsEnd, Reads}
 use Rattle.hls_pragma.specs.Cuts.{Cut}
 use Rattle.hls_pragma.proofs.CutSteps.{cut_is, cut_of}
-use Rattle.hls_pragma.proofs.Lists.{if_true, if_false, bool_cases, map_some, names_are, Listed, names_listed}
+use Rattle.hls_pragma.proofs.Lists.{if_true, if_false, bool_cases, map_some, names_are, names_listed}
 
 -- a word with one text has no other
 other_text : (line : List ℕ) (w : NameSpan) (a b : List ℕ) → word_is line w a ≡ true → bytes_eq a b ≡ false → word_is line w b ≡ false
 other_text line w a b e f = bool_cases (λ x. nat_le w.start (length line) ≡ x → (x && nat_le w.len (length line - w.start) && bytes_eq (take w.len (drop w.start line)) a) ≡ true → (x && nat_le w.len (length line - w.start) && bytes_eq (take w.len (drop w.start line)) b) ≡ false) (nat_le w.start (length line))
     (λ _ _ g. bool_cases (λ x. nat_le w.len (length line - w.start) ≡ x → (x && bytes_eq (take w.len (drop w.start line)) a) ≡ true → (x && bytes_eq (take w.len (drop w.start line)) b) ≡ false) (nat_le w.len (length line - w.start))
-        (λ _ _ k. subst (λ t. bytes_eq t b ≡ false) (sym ((bytes_eq-Decides (take w.len (drop w.start line)) a).0 k)) f)
-        (λ _ _ k. refl) refl g)
+    (λ _ _ k. subst (λ t. bytes_eq t b ≡ false) (sym ((bytes_eq-Decides (take w.len (drop w.start line)) a).0 k)) f)
+    (λ _ _ k. refl) refl g)
     (λ _ _ g. refl) refl e
 
 -- each level's word is read as that level
@@ -127,8 +127,8 @@ reads_closed : (line : List ℕ) (w : NameSpan) (names : List NameSpan) (p : Pra
 reads_closed line w names p h e = bool_cases (λ b. word_is line w (codes "barrier") ≡ b → cond b (Some (Barrier names)) (option_map (scope_of names) (level_at line w)) ≡ Some p → Reads line p) (word_is line w (codes "barrier"))
     (λ _ b g. subst (Reads line) (some_of (Barrier names) p g) (lists_it line (codes "barrier") w names [] h b))
     (λ _ b g.
-      let m = map_some (scope_of names) (level_at line w) p g in
-      subst (Reads line) m.2 (lists_it line (level_text m.0) w names [] h (read_level line w m.0 m.1))) refl e
+    let m = map_some (scope_of names) (level_at line w) p g in
+    subst (Reads line) m.2 (lists_it line (level_text m.0) w names [] h (read_level line w m.0 m.1))) refl e
 
 none_some : (p : Pragma) → ◌≡◌ {A = Option Pragma} None (Some p) → ⊥
 none_some p e = cc
@@ -143,8 +143,8 @@ reads_behind line w names (i ∷ behind) p h e = absurd (none_some p (sym (if_fa
 reads_pragma : (line : List ℕ) (w : NameSpan) (names : List NameSpan) (behind : List Item) (p : Pragma) → Headed line w names behind → pragma_of line w names behind ≡ Some p → Reads line p
 reads_pragma line w names behind p h e = bool_cases (λ b. word_is line w (codes "single") ≡ b → cond b (option_map (Single names) (end_at line behind)) (cond (nat_eq (length behind) 0) (closed_of line w names) None) ≡ Some p → Reads line p) (word_is line w (codes "single"))
     (λ _ b g.
-      let m = map_some (Single names) (end_at line behind) p g in
-      subst (Reads line) m.2 (behind, lists_it line (codes "single") w names behind h b, end_said line behind m.0 m.1))
+    let m = map_some (Single names) (end_at line behind) p g in
+    subst (Reads line) m.2 (behind, lists_it line (codes "single") w names behind h b, end_said line behind m.0 m.1))
     (λ _ b g. reads_behind line w names behind p h g) refl e
 
 reads_listed : (line : List ℕ) (h w : NameSpan) (rest : List Item) (p : Pragma) → Cut 0 line (Word h ∷ Word w ∷ Open ∷ rest) → word_is line h (codes "hls") ≡ true → (o : Option (List NameSpan × List Item)) → names_at line rest ≡ o → listed_at line w o ≡ Some p → Reads line p

@@ -1,8 +1,7 @@
 -- Which words and signs a line has, from left to right.
-use Rattle.std.specs.Prelude.{◌≡◌, ℕ, ◌+◌, Bool, true, false, List, [], ◌∷◌, ◌++◌, length}
-use Rattle.hls_pragma.specs.declared.directives.NameSpan.{NameSpan}
+use Rattle.std.specs.Prelude.{◌≡◌, ℕ, ◌+◌, true, false, List, [], ◌∷◌, ◌++◌, length}
 use Rattle.hls_pragma.specs.declared.items.Item.{Item}
-use Rattle.hls_pragma.specs.declared.items.Item.TheVariants.{Word, Open, Comma, Close, Other}
+use Rattle.hls_pragma.specs.declared.items.Item.TheVariants.{Word}
 use Rattle.hls_pragma.specs.Items.{is_blank, is_word_byte, sign_of}
 
 -- each byte is of a word

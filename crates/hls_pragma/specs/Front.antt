@@ -1,5 +1,5 @@
 -- The directive that the items of a line spell, worked out from the left.
-use Rattle.std.specs.Prelude.{ℕ, ◌+◌, ◌-◌, Bool, true, false, nat_eq, ◌&&◌, cond, nat_le, codes, length, List, [], ◌∷◌, Option, Some, None, take, drop, slice_index}
+use Rattle.std.specs.Prelude.{ℕ, ◌-◌, Bool, true, false, nat_eq, ◌&&◌, cond, nat_le, codes, length, List, [], ◌∷◌, Option, Some, None, take, drop, slice_index}
 use Rattle.std.specs.Option.{option_map}
 use Rattle.std.specs.Str.{bytes_eq}
 use Rattle.mpc_base.specs.declared.owners.Level.{Level}

@@ -1,6 +1,5 @@
 -- The words and signs of a line.
-use Rattle.std.specs.Prelude.{◌≡◌, ℕ, zero, suc, ◌+◌, Bool, true, false, ◌&&◌, ◌||◌, cond, List, [], ◌∷◌, ◌++◌, nat_eq, nat_le}
-use Rattle.hls_pragma.specs.declared.directives.NameSpan.{NameSpan}
+use Rattle.std.specs.Prelude.{ℕ, zero, suc, ◌+◌, Bool, ◌&&◌, ◌||◌, cond, List, [], ◌∷◌, ◌++◌, nat_eq, nat_le}
 use Rattle.hls_pragma.specs.declared.items.Item.{Item}
 use Rattle.hls_pragma.specs.declared.items.Item.TheVariants.{Word, Open, Comma, Close, Other}
 

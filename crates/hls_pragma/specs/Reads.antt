@@ -1,12 +1,12 @@
 -- Which directive a line says.
-use Rattle.std.specs.Prelude.{◌≡◌, ℕ, Bool, true, false, ◌⊎◌, List, [], ◌∷◌, ◌++◌, take, drop, codes, slice_index}
+use Rattle.std.specs.Prelude.{◌≡◌, ℕ, Bool, true, false, List, [], ◌∷◌, ◌++◌, codes, slice_index}
 use Rattle.mpc_base.specs.declared.owners.Level.{Level}
 use Rattle.mpc_base.specs.declared.owners.Level.TheVariants as level
 use Rattle.hls_pragma.specs.declared.directives.NameSpan.{NameSpan}
 use Rattle.hls_pragma.specs.declared.directives.Pragma.{Pragma}
 use Rattle.hls_pragma.specs.declared.directives.Pragma.TheVariants.{Scope, Single, Barrier, Foreign}
 use Rattle.hls_pragma.specs.declared.items.Item.{Item}
-use Rattle.hls_pragma.specs.declared.items.Item.TheVariants.{Word, Open, Comma, Close, Other}
+use Rattle.hls_pragma.specs.declared.items.Item.TheVariants.{Word, Open, Comma, Close}
 use Rattle.hls_pragma.specs.Cuts.{Cut}
 use Rattle.hls_pragma.specs.Front.{word_is, begins_hls}
 use Rattle.hls_pragma.specs.Items.{is_letter}

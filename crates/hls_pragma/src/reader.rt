@@ -62,13 +62,21 @@ fn name_in(line: &[u8], item: Item) -> Option<NameSpan>
     ensures { result ≡ name_of line.now item }
 {
     match item {
-        Item::Word(name) => if begins_name(line, name) { Some(name) } else { None },
+        Item::Word(name) => if begins_name(line, name) {
+            Some(name)
+        } else {
+            None
+        },
         _ => None,
     }
 }
 
 // The names up to the closing bracket, and what stands behind it.
-fn names<'a>(alloc: Global, line: &[u8], items: &'a [Item]) -> Result<Option<(Names, &'a [Item])>, Memory>
+fn names<'a>(
+    alloc: Global,
+    line: &[u8],
+    items: &'a [Item],
+) -> Result<Option<(Names, &'a [Item])>, Memory>
     ensures { IfOk result (λ o. MatchOption o (names_at line.now items.entry.now ≡ None) (λ p. names_at line.now items.entry.now ≡ Some (p.0, p.1.now))) }
 {
     let mut list = Vec::new(alloc);
@@ -102,7 +110,11 @@ fn end(line: &[u8], behind: &[Item]) -> Option<bool>
 {
     match behind {
         [] => Some(false),
-        [item] => if is_nowait(line, *item) { Some(true) } else { None },
+        [item] => if is_nowait(line, *item) {
+            Some(true)
+        } else {
+            None
+        },
         _ => None,
     }
 }
@@ -140,7 +152,12 @@ fn pragma(line: &[u8], word: NameSpan, names: Names, behind: &[Item]) -> Option<
     }
 }
 
-fn listed(alloc: Global, line: &[u8], word: NameSpan, rest: &[Item]) -> Result<Option<Pragma>, Memory>
+fn listed(
+    alloc: Global,
+    line: &[u8],
+    word: NameSpan,
+    rest: &[Item],
+) -> Result<Option<Pragma>, Memory>
     ensures { IfOk result (λ o. o ≡ listed_at line.now word (names_at line.now rest.now)) }
 {
     match names(alloc, line, rest)? {
@@ -149,7 +166,13 @@ fn listed(alloc: Global, line: &[u8], word: NameSpan, rest: &[Item]) -> Result<O
     }
 }
 
-fn headed(alloc: Global, line: &[u8], head: Item, sign: Item, rest: &[Item]) -> Result<Option<Pragma>, Memory>
+fn headed(
+    alloc: Global,
+    line: &[u8],
+    head: Item,
+    sign: Item,
+    rest: &[Item],
+) -> Result<Option<Pragma>, Memory>
     ensures { IfOk result (λ o. o ≡ headed_at line.now head sign rest.now) }
 {
     match (head, sign) {

@@ -4,9 +4,9 @@ use mpc_base::{Level, Memory};
 use std::alloc::Global;
 use std::test::Fail;
 
-/// What a line says, without its names.
+// What a line says, without its names.
 #[derive(Clone, Copy, Debug, PartialEq, Eq)]
-enum Said {
+enum Meaning {
     Scope(Level),
     Single { nowait: bool },
     Barrier,
@@ -14,13 +14,13 @@ enum Said {
     Refused,
 }
 
-fn said(alloc: Global, line: &str) -> Result<Said, Memory> {
+fn said(alloc: Global, line: &str) -> Result<Meaning, Memory> {
     match read_pragma(alloc, line.as_bytes())? {
-        Ok(Pragma::Scope { level, names: _ }) => Ok(Said::Scope(level)),
-        Ok(Pragma::Single { names: _, nowait }) => Ok(Said::Single { nowait }),
-        Ok(Pragma::Barrier { names: _ }) => Ok(Said::Barrier),
-        Ok(Pragma::Foreign) => Ok(Said::Foreign),
-        Err(_) => Ok(Said::Refused),
+        Ok(Pragma::Scope { level, names: _ }) => Ok(Meaning::Scope(level)),
+        Ok(Pragma::Single { names: _, nowait }) => Ok(Meaning::Single { nowait }),
+        Ok(Pragma::Barrier { names: _ }) => Ok(Meaning::Barrier),
+        Ok(Pragma::Foreign) => Ok(Meaning::Foreign),
+        Err(_) => Ok(Meaning::Refused),
     }
 }
 
@@ -37,25 +37,28 @@ fn listed(alloc: Global, line: &str) -> Result<Vec<NameSpan>, Memory> {
 #[test]
 fn each_line_as_it_says(rt: HostRuntime) -> Result<(), Fail> {
     let cases = [
-        (" hls core(a)", Said::Scope(Level::Core)),
-        (" hls l1(a)", Said::Scope(Level::L1)),
-        (" hls l2(a)", Said::Scope(Level::L2)),
-        (" hls l3(a)", Said::Scope(Level::L3)),
-        (" hls numa(t)", Said::Scope(Level::Numa)),
-        ("\thls\tnode ( w )\r", Said::Scope(Level::Node)),
-        (" hls node(int)", Said::Scope(Level::Node)),
-        (" hls node(a, _b2 ,c)", Said::Scope(Level::Node)),
-        (" hls single(w)", Said::Single { nowait: false }),
-        (" hls single(w)nowait", Said::Single { nowait: true }),
-        (" hls single ( v , w ) nowait ", Said::Single { nowait: true }),
-        (" hls barrier(w)", Said::Barrier),
-        ("hls barrier(v,w)", Said::Barrier),
-        ("", Said::Foreign),
-        (" omp parallel", Said::Foreign),
-        (" hlsx node(a)", Said::Foreign),
-        (" HLS node(a)", Said::Foreign),
-        (" (hls node(a))", Said::Foreign),
-        (" once /* a", Said::Foreign),
+        (" hls core(a)", Meaning::Scope(Level::Core)),
+        (" hls l1(a)", Meaning::Scope(Level::L1)),
+        (" hls l2(a)", Meaning::Scope(Level::L2)),
+        (" hls l3(a)", Meaning::Scope(Level::L3)),
+        (" hls numa(t)", Meaning::Scope(Level::Numa)),
+        ("\thls\tnode ( w )\r", Meaning::Scope(Level::Node)),
+        (" hls node(int)", Meaning::Scope(Level::Node)),
+        (" hls node(a, _b2 ,c)", Meaning::Scope(Level::Node)),
+        (" hls single(w)", Meaning::Single { nowait: false }),
+        (" hls single(w)nowait", Meaning::Single { nowait: true }),
+        (
+            " hls single ( v , w ) nowait ",
+            Meaning::Single { nowait: true },
+        ),
+        (" hls barrier(w)", Meaning::Barrier),
+        ("hls barrier(v,w)", Meaning::Barrier),
+        ("", Meaning::Foreign),
+        (" omp parallel", Meaning::Foreign),
+        (" hlsx node(a)", Meaning::Foreign),
+        (" HLS node(a)", Meaning::Foreign),
+        (" (hls node(a))", Meaning::Foreign),
+        (" once /* a", Meaning::Foreign),
     ];
     for (line, want) in cases {
         assert_eq!(rt; said(rt.alloc(), line)?, want, "{line}");
@@ -96,7 +99,7 @@ fn each_refused_line(rt: HostRuntime) -> Result<(), Fail> {
         " hls node(a\u{e9})",
     ];
     for line in cases {
-        assert_eq!(rt; said(rt.alloc(), line)?, Said::Refused, "{line}");
+        assert_eq!(rt; said(rt.alloc(), line)?, Meaning::Refused, "{line}");
     }
     Ok(())
 }
@@ -109,10 +112,13 @@ fn names_are_spans_of_the_line(rt: HostRuntime) -> Result<(), Fail> {
         NameSpan { start: 20, len: 3 },
         NameSpan { start: 26, len: 1 },
     ];
-    assert_eq!(rt; names.as_slice(), &want);
+    assert_eq!(rt; names.as_slice(), want.as_slice());
     let alone = listed(rt.alloc(), "hls l3(t)")?;
-    assert_eq!(rt; alone.as_slice(), &[NameSpan { start: 7, len: 1 }]);
+    assert_eq!(rt;
+        alone.as_slice(),
+        [NameSpan { start: 7, len: 1 }].as_slice()
+    );
     let kept = Names::of(alone);
-    assert_eq!(rt; kept.as_slice(), &[NameSpan { start: 7, len: 1 }]);
+    assert_eq!(rt; kept.as_slice(), [NameSpan { start: 7, len: 1 }].as_slice());
     Ok(())
 }

@@ -1,4 +1,4 @@
-use Rattle.std.proofs.Common.{◌≡◌, ◌∙◌, sym, ap, true, false}
+use Rattle.std.proofs.Common.{◌≡◌, ◌∙◌, sym, ap, true}
 use Rattle.hls_pragma.specs.declared.directives.Pragma.TheVariants.{Foreign}
 use Rattle.hls_pragma.specs.Items.{items_of}
 use Rattle.hls_pragma.specs.Front.{begins_hls}
