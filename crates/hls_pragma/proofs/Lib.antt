@@ -1,0 +1,5 @@
+pub mod CutSteps
+pub mod Lists
+pub mod NameSteps
+pub mod Ordered
+pub mod Readings

@@ -1,0 +1,12 @@
+//! The directives that share variables: what stands behind `#pragma` in a line.
+#![tactic(auto)]
+
+mod directives;
+mod items;
+mod reader;
+
+pub use directives::{NameSpan, Names, Pragma, PragmaRefusal};
+pub use reader::read_pragma;
+
+#[cfg(test)]
+mod tests;
