@@ -4,9 +4,15 @@
 //! has had so far, which call the task asks next and at which line.
 #![tactic(auto)]
 
+pub mod formats;
+pub mod mpi;
+mod names;
+pub mod program;
+pub mod syntax;
 mod trees;
 mod variables;
 
+pub use names::{Identifier, Identifiers};
 pub use trees::{Expr, Function, Program, Stmt};
 pub use variables::Globals;
 

@@ -1,0 +1,2 @@
+pub mod SyntaxRows
+pub mod ProgramRows
