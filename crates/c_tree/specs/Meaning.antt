@@ -5,7 +5,7 @@ use Rattle.mpc_base.specs.declared.values.Word.{Word}
 use Rattle.mpc_base.specs.declared.values.Word.TheVariants.{Int, Ptr}
 use Rattle.mpc_base.specs.declared.values.Obj.TheVariants.{Glob}
 use Rattle.mpc_base.specs.declared.calls.Call.TheVariants.{Load, Store, Print, Finish}
-use Rattle.mpc_base.specs.declared.calls.Answer.{Answer}
+use Rattle.mpc_base.specs.declared.answers.Answer.{Answer}
 use Rattle.c_tree.specs.declared.trees.Expr.{Expr, Number, Global, Assign', Printf'}
 use Rattle.c_tree.specs.declared.trees.Stmt.{Stmt}
 use Rattle.c_tree.specs.declared.trees.Stmt.TheVariants.{Eval, Return}

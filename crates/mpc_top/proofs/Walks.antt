@@ -6,8 +6,8 @@ use Rattle.std.proofs.lemmas.Int.{int_wrap_fits}
 use Rattle.std.proofs.lemmas.Fmt.{length_signed_le}
 use Rattle.mpc_base.specs.declared.values.Word.TheVariants.{Int}
 use Rattle.mpc_base.specs.declared.calls.Call.TheVariants.{Load, Store, Print, Finish}
-use Rattle.mpc_base.specs.declared.calls.Answer.{Answer}
-use Rattle.mpc_base.specs.declared.calls.Answer.TheVariants.{Done, Gives}
+use Rattle.mpc_base.specs.declared.answers.Answer.{Answer}
+use Rattle.mpc_base.specs.declared.answers.Answer.TheVariants.{Done, Gives}
 use Rattle.c_tree.specs.declared.trees.Expr.{Number, Global, Assign', Printf'}
 use Rattle.c_tree.specs.declared.trees.Stmt.{Stmt}
 use Rattle.c_tree.specs.declared.trees.Stmt.TheVariants.{Eval, Return}

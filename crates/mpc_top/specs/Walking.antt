@@ -3,7 +3,7 @@ use Rattle.std.specs.Prelude.{◌≡◌, ◌+◌, ◌≤◌, List, [], ◌∷◌
 use Rattle.std.specs.Int.{w32}
 use Rattle.mpc_base.specs.declared.values.Word.{Word}
 use Rattle.mpc_base.specs.declared.values.Word.TheVariants.{Undef, Int, Null, Ptr, Comm, Req}
-use Rattle.mpc_base.specs.declared.calls.Answer.{Answer}
+use Rattle.mpc_base.specs.declared.answers.Answer.{Answer}
 use Rattle.c_tree.specs.declared.trees.Stmt.{Stmt}
 use Rattle.c_tree.specs.Meaning.{next, run, finish_main}
 use Rattle.run_model.specs.declared.records.Setup.{Setup}
