@@ -78,4 +78,4 @@ finish_main main (Returned line value) s = finish (int_of value) line s
 
 -- what a task that runs the program asks next, behind these answers
 abbrev pub next : Program → List Answer → Next
-next program answers = run program.main.body.items (finish_main program.main) (record { answers = answers })
+next program answers = run program.main.body.items (finish_main program.main) (record { slots = []; turns = 0; answers = answers })
