@@ -9,6 +9,7 @@ pub mod formats;
 pub mod mpi;
 mod names;
 pub mod program;
+pub mod scripts;
 pub mod syntax;
 mod trees;
 mod variables;
