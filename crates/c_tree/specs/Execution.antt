@@ -114,8 +114,9 @@ way_of answer = way.Skip
 abbrev pub in_way : Way → ℕ → ℕ → Step Exit → Step Exit
 in_way way.Run line construct body = do
   exit ← body
-  _ ← ask (call.HlsExit construct) line
-  pure exit
+  then exit (do
+    _ ← ask (call.HlsExit construct) line
+    pure Normal)
 in_way way.Hold line construct body = do
   _ ← ask (call.HlsWait construct) line
   pure Normal
@@ -200,8 +201,9 @@ with_params line end slot [] body = body
 with_params line end slot (false ∷ more) body = with_params line end (slot + 1) more body
 with_params line end slot (true ∷ more) body = do
   word ← get slot
-  place ← make line slot 1
-  _ ← ask (call.Store place word) line
+  _ ← make line slot 1
+  place ← get slot
+  _ ← ask (call.Store (pointer_of place) word) line
   exit ← with_params line end (slot + 1) more body
   _ ← release slot (drop_line exit end)
   pure exit
@@ -221,7 +223,9 @@ exit_of calls f arguments line =
 
 -- A call counts a turn, and gives the function's value.
 abbrev pub called : Calls → Option Function → List Word → ℕ → Step Word
-called calls None arguments line = fault Depth line
+called calls None arguments line = do
+  _ ← tick line
+  fault Depth line
 called calls (Some f) arguments line = do
   _ ← tick line
   exit ← exit_of calls f arguments line

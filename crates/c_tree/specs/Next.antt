@@ -31,8 +31,8 @@ finish line code s = ask (call.Finish code) line (λ answer s'. over s'.answers)
 
 abbrev pub finish_main : Function → Exit → State → Next
 finish_main main Normal s = finish main.end_line (pos 0) s
-finish_main main (Broken line) s = finish line (pos 0) s
-finish_main main (Continued line) s = finish line (pos 0) s
+finish_main main (Broken line) s = finish main.end_line (pos 0) s
+finish_main main (Continued line) s = finish main.end_line (pos 0) s
 finish_main main (Returned line value) s = finish line (number_of width.Int value) s
 
 -- What a task asks whose main is a function, behind these answers, with so many turns and calls so deep at the most.
