@@ -39,7 +39,7 @@ finish_main main (Returned line value) s = finish line (number_of width.Int valu
 abbrev pub next_in : List Function → Option Function → ℕ → ℕ → List Answer → Next
 next_in functions None depth turns answers = over answers
 next_in functions (Some main) depth turns answers =
-    exit_of (calls_of functions depth) main (arguments_of_main main.params) main.end_line (finish_main main) (record { slots = []; turns = turns; answers = answers })
+    exit_of (calls_of functions depth) main (arguments_of_main main.params) 0 (finish_main main) (record { slots = []; turns = turns; answers = answers })
 
 -- What a task that runs a program asks next, behind these answers. It makes at most 10,000,000 turns, and its calls go at
 -- most 1,024 deep: main is at depth 1, so 1,023 calls may be open in it.

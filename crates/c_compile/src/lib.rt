@@ -1,0 +1,2 @@
+//! The compiler from typed programs to flat code.
+#![tactic(auto)]
