@@ -54,9 +54,9 @@ abbrev mutual
   expr_code line (p.Load scalar place) = expr_code line place ++ i.Load scalar line ∷ []
   expr_code line (p.SetLocal slot value) = expr_code line value ++ i.Set slot ∷ []
   expr_code line (p.Store place value) = expr_code line place ++ (expr_code line value ++ i.Store line ∷ [])
-  expr_code line (p.UpdateLocal update slot value) = i.Get slot line ∷ (expr_code line value ++ (i.Update update line ∷ i.Set slot ∷ []))
+  expr_code line (p.UpdateLocal update slot value) = (i.Get slot line ∷ (expr_code line value ++ i.Update update line ∷ [])) ++ i.Set slot ∷ []
   expr_code line (p.UpdateStore update place value) =
-      expr_code line place ++ (i.Peek (scalar_of update) line ∷ (expr_code line value ++ (i.Update update line ∷ i.Store line ∷ [])))
+      expr_code line place ++ ((i.Peek (scalar_of update) line ∷ (expr_code line value ++ i.Update update line ∷ [])) ++ i.Store line ∷ [])
   expr_code line (p.StepLocal update before slot) = step_local update before slot line
   expr_code line (p.StepStore update before place) = expr_code line place ++ step_store update before line
   expr_code line (p.Negate width value) = expr_code line value ++ i.Negate width line ∷ []
