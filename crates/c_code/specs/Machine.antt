@@ -222,15 +222,24 @@ resume_of (i.HlsEnter construct line) m answer = way_next m (way_of answer)
 resume_of (i.Return line) m answer = Ends
 resume_of other m answer = go_next m m.stack
 
+-- the last part of a script
+abbrev pub last_part : Mach → Scripting → Stepped
+last_part m s = Moves (record m { script = Some (record s { phase = Last; steps = last_of s.mpi.function; index = 0 }) })
+
+-- The part behind the first one: these steps for each of so many requests, where there are such steps. A negative number
+-- of requests fails.
+abbrev pub behind_first : Mach → Scripting → List ScriptStep → ℤ → Stepped
+behind_first m s [] count = last_part m s
+behind_first m s (e ∷ each) (pos zero) = last_part m s
+behind_first m s (e ∷ each) (pos (suc more)) = Moves (record m { script = Some (record s { phase = Requests more; steps = e ∷ each; index = 0 }) })
+behind_first m s (e ∷ each) (negsuc count) = breaks fault.BadCount s.line
+
 -- the part of a script that follows where no step of the present one is left
-abbrev pub part_behind : Mach → Scripting → List ScriptStep → ℤ → Phase → Stepped
-part_behind m s [] count First = Moves (record m { script = Some (record s { phase = Last; steps = last_of s.mpi.function; index = 0 }) })
-part_behind m s (e ∷ each) (pos zero) First = Moves (record m { script = Some (record s { phase = Last; steps = last_of s.mpi.function; index = 0 }) })
-part_behind m s (e ∷ each) (pos (suc more)) First = Moves (record m { script = Some (record s { phase = Requests more; steps = e ∷ each; index = 0 }) })
-part_behind m s (e ∷ each) (negsuc count) First = breaks fault.BadCount s.line
-part_behind m s each count (Requests zero) = Moves (record m { script = Some (record s { phase = Last; steps = last_of s.mpi.function; index = 0 }) })
-part_behind m s each count (Requests (suc more)) = Moves (record m { script = Some (record s { phase = Requests more; steps = each; index = s.index + 1 }) })
-part_behind m s each count Last = Moves (record m { pc = m.pc + 1; stack = Int (pos 0) ∷ m.stack; script = None })
+abbrev pub part_behind : Mach → Scripting → Phase → Stepped
+part_behind m s First = behind_first m s (each_of s.mpi.function) (number_at s.arguments 0)
+part_behind m s (Requests zero) = last_part m s
+part_behind m s (Requests (suc more)) = Moves (record m { script = Some (record s { phase = Requests more; steps = each_of s.mpi.function; index = s.index + 1 }) })
+part_behind m s Last = Moves (record m { pc = m.pc + 1; stack = Int (pos 0) ∷ m.stack; script = None })
 
 -- a step of a script
 abbrev pub script_wants : Mach → Scripting → List ScriptStep → Wanted → Stepped
@@ -239,7 +248,7 @@ script_wants m s rest Skips = Moves (record m { script = Some (record s { steps 
 script_wants m s rest (Breaks f) = breaks f s.line
 
 abbrev pub script_step : Mach → Scripting → List ScriptStep → Stepped
-script_step m s [] = part_behind m s (each_of s.mpi.function) (number_at s.arguments 0) s.phase
+script_step m s [] = part_behind m s s.phase
 script_step m s (t ∷ rest) = script_wants m s rest (wanted s.mpi s.arguments s.index s.found t)
 
 -- what a step of a script that asked makes of the answer; the end of the run is behind MPI_Abort

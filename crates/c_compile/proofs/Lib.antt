@@ -1,2 +1,5 @@
 pub mod Steps
 pub mod Operations
+pub mod Choices
+pub mod Arguments
+pub mod ScriptRuns
