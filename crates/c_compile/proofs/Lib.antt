@@ -3,3 +3,4 @@ pub mod Operations
 pub mod Choices
 pub mod Arguments
 pub mod ScriptRuns
+pub mod Expressions
