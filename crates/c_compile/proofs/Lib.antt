@@ -4,3 +4,5 @@ pub mod Choices
 pub mod Arguments
 pub mod ScriptRuns
 pub mod Expressions
+pub mod Turns
+pub mod Statements
