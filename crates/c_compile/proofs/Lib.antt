@@ -6,3 +6,4 @@ pub mod ScriptRuns
 pub mod Expressions
 pub mod Turns
 pub mod Statements
+pub mod Loops

@@ -44,15 +44,15 @@ module _ (code : Code) (frames : List Frame) (ln : ℕ) where
   abbrev pub Does : Place → List Instr → Step Exit → Type 0
   Does place c m = (pc : ℕ) (stack : List Word) (s : State) (k : Exit → State → Next) → Has pc c → Exits place (pc + length c) stack s.turns k → Goes' pc stack s (m k s)
 
-  abbrev GivesHere : List Instr → Step Word → Type 0
+  abbrev pub GivesHere : List Instr → Step Word → Type 0
   GivesHere c m = Gives code frames ln c m
 
   -- code whose value nobody reads
-  abbrev Leaves : List Instr → Step Word → Type 0
+  abbrev pub Leaves : List Instr → Step Word → Type 0
   Leaves c m = (pc : ℕ) (stack : List Word) (s : State) (k : Word → State → Next) → Has pc c → ((v : Word) (s' : State) → s'.turns ≤ s.turns → Goes' (pc + length c) stack s' (k v s')) → Goes' pc stack s (m k s)
 
   -- with fewer turns the same ways out are there
-  fewer : (place : Place) (q : ℕ) (stack : List Word) (t t' : ℕ) (k : Exit → State → Next) → t' ≤ t → Exits place q stack t k → Exits place q stack t' k
+  pub fewer : (place : Place) (q : ℕ) (stack : List Word) (t t' : ℕ) (k : Exit → State → Next) → t' ≤ t → Exits place q stack t k → Exits place q stack t' k
   fewer place q stack t t' k le x = record {
     next = λ s l. x.next s (omega (arith, le, l));
     breaks = λ line pc n h d s l. x.breaks line pc n h d s (omega (arith, le, l));
@@ -60,17 +60,17 @@ module _ (code : Code) (frames : List Frame) (ln : ℕ) where
     returns = λ line pc h w s l. x.returns line pc h w s (omega (arith, le, l));
   }
 
-  pop_behind : (c : List Instr) (m : Step Word) → GivesHere c m → Leaves (c ++ i.Pop ∷ []) m
+  pub pop_behind : (c : List Instr) (m : Step Word) → GivesHere c m → Leaves (c ++ i.Pop ∷ []) m
   pop_behind c m g pc stack s k has r =
       let len : pc + length (c ++ i.Pop ∷ []) ≡ pc + length c + 1 = omega (arith, length-append c (i.Pop ∷ [])) in
       g pc stack s k (has_front code pc c _ has) (λ v s1 le1.
         pop_ok code frames ln (pc + length c) v stack s1 (k v s1) (has_back code pc c _ has).0 (moved_to code _ _ stack frames ln s1 _ len (r v s1 le1)))
 
-  eval_ok : (place : Place) (c : List Instr) (m : Step Word) → GivesHere c m → Does place (c ++ i.Pop ∷ []) (m >>= (λ v. pure Normal))
+  pub eval_ok : (place : Place) (c : List Instr) (m : Step Word) → GivesHere c m → Does place (c ++ i.Pop ∷ []) (m >>= (λ v. pure Normal))
   eval_ok place c m g pc stack s k has x = pop_behind c m g pc stack s (λ v s'. k Normal s') has (λ v s1 le1. x.next s1 le1)
 
   -- one statement and what stands behind it
-  seq_ok : (place : Place) (a b : List Instr) (ma mb : Step Exit) → Does (before (length b) place) a ma → Does place b mb → Does place (a ++ b) (ma >>= (λ e. then e mb))
+  pub seq_ok : (place : Place) (a b : List Instr) (ma mb : Step Exit) → Does (before (length b) place) a ma → Does place b mb → Does place (a ++ b) (ma >>= (λ e. then e mb))
   seq_ok place a b ma mb ga gb pc stack s k has x =
       let len : pc + length (a ++ b) ≡ pc + length a + length b = omega (arith, length-append a b) in
       let far : (n : ℕ) → pc + length (a ++ b) + n ≡ pc + length a + (length b + n) = λ n. omega (arith, length-append a b) in
@@ -82,7 +82,7 @@ module _ (code : Code) (frames : List Frame) (ln : ℕ) where
       })
 
   -- a local in memory, which is dropped on each way out
-  block_ok : (place : Place) (line slot words end : ℕ) (c : List Instr) (m : Step Exit) → Does (inside slot place) c m
+  pub block_ok : (place : Place) (line slot words end : ℕ) (c : List Instr) (m : Step Exit) → Does (inside slot place) c m
       → Does place (i.New slot words line ∷ (c ++ i.Release slot end ∷ [])) (make line slot words >>= (λ w. m >>= (λ e. release slot (drop_line e end) >>= (λ a. pure e))))
   block_ok place line slot words end c m g pc stack s k has x =
       let size : pc + length (i.New slot words line ∷ (c ++ i.Release slot end ∷ [])) ≡ pc + 1 + length c + 1 = omega (arith, length-append c (i.Release slot end ∷ [])) in
@@ -96,7 +96,7 @@ module _ (code : Code) (frames : List Frame) (ln : ℕ) where
         }))
 
   -- one of two statements
-  if_ok : (place : Place) (c a b : List Instr) (mc : Step Word) (ma mb : Step Exit) → GivesHere c mc → Does (before (suc (length b)) place) a ma → Does place b mb → Does place (if_code c a b) (mc >>= (λ w. if_holds w ma mb))
+  pub if_ok : (place : Place) (c a b : List Instr) (mc : Step Word) (ma mb : Step Exit) → GivesHere c mc → Does (before (suc (length b)) place) a ma → Does place b mb → Does place (if_code c a b) (mc >>= (λ w. if_holds w ma mb))
   if_ok place c a b mc ma mb gc ga gb pc stack s k has x =
       let p' = pc + length c + 1 in
       let h = has_back code pc c _ has in
@@ -117,14 +117,14 @@ module _ (code : Code) (frames : List Frame) (ln : ℕ) where
          (gb q stack s1 k ha.1 (subst (λ z. Exits place z stack s1.turns k) len (fewer place _ stack _ _ k le1 x))))
         (holds w) refl)
 
-  break_ok : (place : Place) (line : ℕ) → Does place (drops line place.in_loop ++ i.Skip place.exit ∷ []) (pure (Broken line))
+  pub break_ok : (place : Place) (line : ℕ) → Does place (drops line place.in_loop ++ i.Skip place.exit ∷ []) (pure (Broken line))
   break_ok place line pc stack s k has x =
       x.breaks line pc place.exit has (omega (arith, length-append (drops line place.in_loop) (i.Skip place.exit ∷ []))) s (omega arith)
 
-  continue_ok : (place : Place) (line : ℕ) → Does place (drops line place.in_loop ++ i.Skip place.again ∷ []) (pure (Continued line))
+  pub continue_ok : (place : Place) (line : ℕ) → Does place (drops line place.in_loop ++ i.Skip place.again ∷ []) (pure (Continued line))
   continue_ok place line pc stack s k has x =
       x.continues line pc place.again has (omega (arith, length-append (drops line place.in_loop) (i.Skip place.again ∷ []))) s (omega arith)
 
-  return_ok : (place : Place) (line : ℕ) (c : List Instr) (m : Step Word) → GivesHere c m → Does place (c ++ (drops line place.in_function ++ i.Return line ∷ [])) (m >>= (λ w. pure (Returned line w)))
+  pub return_ok : (place : Place) (line : ℕ) (c : List Instr) (m : Step Word) → GivesHere c m → Does place (c ++ (drops line place.in_function ++ i.Return line ∷ [])) (m >>= (λ w. pure (Returned line w)))
   return_ok place line c m g pc stack s k has x =
       g pc stack s (λ w s'. k (Returned line w) s') (has_front code pc c _ has) (λ w s1 le. x.returns line (pc + length c) (has_back code pc c _ has) w s1 le)
