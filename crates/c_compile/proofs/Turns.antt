@@ -80,3 +80,40 @@ module _ (code : Code) (frames : List Frame) (ln : ℕ) where
       asks_ok code (at pc stack frames ln s.slots s.turns) (i.New slot words line) (call.New words) line s (λ a. at (pc + 1) stack frames ln (slice_set s.slots slot (pointer_of (word_of a))) s.turns)
       (λ a s'. k (pointer_of (word_of a)) (record s' { slots = slice_set s'.slots slot (pointer_of (word_of a)) })) refl h refl refl (λ a. refl)
       (λ a more. r (pointer_of (word_of a)) (record s { answers = more; slots = slice_set s.slots slot (pointer_of (word_of a)) }) (omega arith))
+
+  -- where no turn is left, none is counted
+  pub tick_fails : {A : Type 0} (pc line : ℕ) (stack : List Word) (s : State) (k : A → State → Next) → Is code frames ln pc (i.Tick line) → s.turns ≡ zero → Runs code frames ln pc stack s (fault Turns line k s)
+  unfolding step_of
+  tick_fails pc line stack s k h none =
+      let m = at pc stack frames ln s.slots s.turns in
+      faults code m (i.Tick line) Turns line s k refl h (ap (λ t. turned m line t (λ left. Moves (record m { pc = pc + 1; turns = left }))) none)
+
+  -- ---- sharing statements, but for the arrival at a single
+
+  pub wait_ok : (construct line pc : ℕ) (stack : List Word) (s : State) (k : Answer → State → Next) → Is code frames ln pc (i.HlsWait construct line)
+      → ((a : Answer) (s' : State) → s'.turns ≤ s.turns → Runs code frames ln (pc + 1) stack s' (k a s')) → Runs code frames ln pc stack s (ask (call.HlsWait construct) line k s)
+  unfolding step_of resume_of
+  wait_ok construct line pc stack s k h r =
+      asks_ok code (at pc stack frames ln s.slots s.turns) (i.HlsWait construct line) (call.HlsWait construct) line s (λ a. at (pc + 1) stack frames ln s.slots s.turns) k refl h refl refl (λ a. refl) (λ a more. r a (record s { answers = more }) (omega arith))
+
+  pub exit_ok : (construct line pc : ℕ) (stack : List Word) (s : State) (k : Answer → State → Next) → Is code frames ln pc (i.HlsExit construct line)
+      → ((a : Answer) (s' : State) → s'.turns ≤ s.turns → Runs code frames ln (pc + 1) stack s' (k a s')) → Runs code frames ln pc stack s (ask (call.HlsExit construct) line k s)
+  unfolding step_of resume_of
+  exit_ok construct line pc stack s k h r =
+      asks_ok code (at pc stack frames ln s.slots s.turns) (i.HlsExit construct line) (call.HlsExit construct) line s (λ a. at (pc + 1) stack frames ln s.slots s.turns) k refl h refl refl (λ a. refl) (λ a more. r a (record s { answers = more }) (omega arith))
+
+  pub bar_ok : (construct line pc : ℕ) (stack : List Word) (s : State) (k : Answer → State → Next) → Is code frames ln pc (i.HlsBar construct line)
+      → ((a : Answer) (s' : State) → s'.turns ≤ s.turns → Runs code frames ln (pc + 1) stack s' (k a s')) → Runs code frames ln pc stack s (ask (call.HlsBar construct) line k s)
+  unfolding step_of resume_of
+  bar_ok construct line pc stack s k h r =
+      asks_ok code (at pc stack frames ln s.slots s.turns) (i.HlsBar construct line) (call.HlsBar construct) line s (λ a. at (pc + 1) stack frames ln s.slots s.turns) k refl h refl refl (λ a. refl) (λ a more. r a (record s { answers = more }) (omega arith))
+
+  pub bar_wait_ok : (construct line pc : ℕ) (stack : List Word) (s : State) (k : Answer → State → Next) → Is code frames ln pc (i.HlsBarWait construct line)
+      → ((a : Answer) (s' : State) → s'.turns ≤ s.turns → Runs code frames ln (pc + 1) stack s' (k a s')) → Runs code frames ln pc stack s (ask (call.HlsBarWait construct) line k s)
+  unfolding step_of resume_of
+  bar_wait_ok construct line pc stack s k h r =
+      asks_ok code (at pc stack frames ln s.slots s.turns) (i.HlsBarWait construct line) (call.HlsBarWait construct) line s (λ a. at (pc + 1) stack frames ln s.slots s.turns) k refl h refl refl (λ a. refl) (λ a more. r a (record s { answers = more }) (omega arith))
+
+  pub unset_ok : (slot pc : ℕ) (stack : List Word) (s : State) (o : Next) → Is code frames ln pc (i.Unset slot) → Runs code frames ln (pc + 1) stack (record s { slots = slice_set s.slots slot Undef }) o → Runs code frames ln pc stack s o
+  unfolding step_of
+  unset_ok slot pc stack s o h r = goes code (at pc stack frames ln s.slots s.turns) (at (pc + 1) stack frames ln (slice_set s.slots slot Undef) s.turns) (i.Unset slot) s.answers o refl h refl r
