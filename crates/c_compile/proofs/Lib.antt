@@ -7,3 +7,4 @@ pub mod Expressions
 pub mod Turns
 pub mod Statements
 pub mod Loops
+pub mod Functions

@@ -81,19 +81,25 @@ module _ (code : Code) (frames : List Frame) (ln : ℕ) where
         returns = λ line p' h w s1 le1. x.returns line p' h w s1 le1;
       })
 
-  -- a local in memory, which is dropped on each way out
+  -- what stands in front of the drop of a local, which comes on each way out
+  pub dropped_ok : (place : Place) (slot end : ℕ) (c : List Instr) (m : Step Exit) → Does (inside slot place) c m
+      → Does place (c ++ i.Release slot end ∷ []) (m >>= (λ e. release slot (drop_line e end) >>= (λ a. pure e)))
+  dropped_ok place slot end c m g pc stack s k has x =
+      let size : pc + length (c ++ i.Release slot end ∷ []) ≡ pc + length c + 1 = omega (arith, length-append c (i.Release slot end ∷ [])) in
+      g pc stack s (λ e s'. release slot (drop_line e end) (λ a s''. k e s'') s') (has_front code pc c _ has) (record {
+        next = λ s2 l2. release_ok code frames ln slot end (pc + length c) stack s2 (λ a s''. k Normal s'') (has_back code pc c _ has).0 (λ a s3 l3. moved_to code _ _ stack frames ln s3 _ size (x.next s3 (omega (arith, l2, l3))));
+        breaks = λ line' p' n h d s2 l2. release_ok code frames ln slot line' p' stack s2 (λ a s''. k (Broken line') s'') h.0 (λ a s3 l3. x.breaks line' (p' + 1) n h.1 (omega (arith, d, size)) s3 (omega (arith, l2, l3)));
+        continues = λ line' p' n h d s2 l2. release_ok code frames ln slot line' p' stack s2 (λ a s''. k (Continued line') s'') h.0 (λ a s3 l3. x.continues line' (p' + 1) n h.1 (omega (arith, d, size)) s3 (omega (arith, l2, l3)));
+        returns = λ line' p' h w' s2 l2. release_ok code frames ln slot line' p' (w' ∷ stack) s2 (λ a s''. k (Returned line' w') s'') h.0 (λ a s3 l3. x.returns line' (p' + 1) h.1 w' s3 (omega (arith, l2, l3)));
+      })
+
+  -- a local in memory, which is made before what stands behind it
   pub block_ok : (place : Place) (line slot words end : ℕ) (c : List Instr) (m : Step Exit) → Does (inside slot place) c m
       → Does place (i.New slot words line ∷ (c ++ i.Release slot end ∷ [])) (make line slot words >>= (λ w. m >>= (λ e. release slot (drop_line e end) >>= (λ a. pure e))))
   block_ok place line slot words end c m g pc stack s k has x =
-      let size : pc + length (i.New slot words line ∷ (c ++ i.Release slot end ∷ [])) ≡ pc + 1 + length c + 1 = omega (arith, length-append c (i.Release slot end ∷ [])) in
-      let k' : Exit → State → Next = λ e s'. release slot (drop_line e end) (λ a s''. k e s'') s' in
-      make_ok code frames ln line slot words pc stack s (λ w s'. m k' s') has.0 (λ w s1 le1.
-        g (pc + 1) stack s1 k' (has_front code (pc + 1) c _ has.1) (record {
-          next = λ s2 l2. release_ok code frames ln slot end (pc + 1 + length c) stack s2 (λ a s''. k Normal s'') (has_back code (pc + 1) c _ has.1).0 (λ a s3 l3. moved_to code _ _ stack frames ln s3 _ size (x.next s3 (omega (arith, le1, l2, l3))));
-          breaks = λ line' p' n h d s2 l2. release_ok code frames ln slot line' p' stack s2 (λ a s''. k (Broken line') s'') h.0 (λ a s3 l3. x.breaks line' (p' + 1) n h.1 (omega (arith, d, size)) s3 (omega (arith, le1, l2, l3)));
-          continues = λ line' p' n h d s2 l2. release_ok code frames ln slot line' p' stack s2 (λ a s''. k (Continued line') s'') h.0 (λ a s3 l3. x.continues line' (p' + 1) n h.1 (omega (arith, d, size)) s3 (omega (arith, le1, l2, l3)));
-          returns = λ line' p' h w' s2 l2. release_ok code frames ln slot line' p' (w' ∷ stack) s2 (λ a s''. k (Returned line' w') s'') h.0 (λ a s3 l3. x.returns line' (p' + 1) h.1 w' s3 (omega (arith, le1, l2, l3)));
-        }))
+      let far : pc + length (i.New slot words line ∷ (c ++ i.Release slot end ∷ [])) ≡ pc + 1 + length (c ++ i.Release slot end ∷ []) = omega arith in
+      make_ok code frames ln line slot words pc stack s _ has.0 (λ w s1 le1.
+        dropped_ok place slot end c m g (pc + 1) stack s1 k has.1 (subst (λ q. Exits place q stack s1.turns k) far (fewer place _ stack _ _ k le1 x)))
 
   -- one of two statements
   pub if_ok : (place : Place) (c a b : List Instr) (mc : Step Word) (ma mb : Step Exit) → GivesHere c mc → Does (before (suc (length b)) place) a ma → Does place b mb → Does place (if_code c a b) (mc >>= (λ w. if_holds w ma mb))

@@ -202,3 +202,8 @@ functions_code (f ∷ more) = function_code f ++ functions_code more
 abbrev pub entries_from : ℕ → List p.Function → List Entry
 entries_from start [] = []
 entries_from start (f ∷ more) = record { start = start; slots = f.slots } ∷ entries_from (start + length (function_code f)) more
+
+-- how many parameters a function has, where it is there
+abbrev pub params_of : Option p.Function → ℕ
+params_of None = 0
+params_of (Some f) = length f.params
