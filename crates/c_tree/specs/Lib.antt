@@ -13,3 +13,4 @@ pub mod Scripts
 pub mod Evaluation
 pub mod Execution
 pub mod Next
+pub mod NextLaws
