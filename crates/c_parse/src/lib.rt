@@ -1,0 +1,4 @@
+//! The tree of a source: a parser from tokens to the tree without types.
+#![tactic(auto)]
+
+mod symbols;
