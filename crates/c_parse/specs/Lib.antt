@@ -2,4 +2,5 @@ pub mod Ahead
 pub mod Expressions
 pub mod Phrases
 pub mod Reading
+pub mod Signs
 pub mod Symbols

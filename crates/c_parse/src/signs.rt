@@ -1,6 +1,6 @@
 //! What a sign means before an operand and between operands.
 ghost use Rattle.std.specs.Prelude.{◌≡◌};
-ghost use Rattle.c_parse.specs.Expressions as spec;
+ghost use Rattle.c_parse.specs.Signs as spec;
 
 use crate::symbols::{Class, Key};
 use c_tree::syntax::{Base, Binary, Change, Unary};
