@@ -1,6 +1,9 @@
 pub mod Ahead
+pub mod Declarations
 pub mod Expressions
 pub mod Phrases
 pub mod Reading
 pub mod Signs
+pub mod Sources
+pub mod Statements
 pub mod Symbols
