@@ -1,1 +1,4 @@
 pub mod Heads
+pub mod Depths
+pub mod Calls
+pub mod Turns

@@ -1,6 +1,7 @@
 pub mod Ahead
 pub mod Declarations
 pub mod Expressions
+pub mod Nests
 pub mod Phrases
 pub mod Reading
 pub mod Signs

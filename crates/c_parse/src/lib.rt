@@ -3,6 +3,8 @@
 
 mod cursor;
 mod grammar;
+mod nodes;
+mod primaries;
 mod signs;
 mod stops;
 mod symbols;
