@@ -1,10 +1,16 @@
 //! The tree of a source: a parser from tokens to the tree without types.
 #![tactic(auto)]
 
+mod binaries;
 mod cursor;
 mod grammar;
 mod nodes;
 mod primaries;
+mod refusals;
 mod signs;
 mod stops;
 mod symbols;
+mod types;
+mod unaries;
+
+pub use refusals::ParseRefusal;
