@@ -1,2 +1,5 @@
+pub mod Ahead
+pub mod Expressions
 pub mod Phrases
+pub mod Reading
 pub mod Symbols

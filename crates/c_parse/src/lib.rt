@@ -1,4 +1,8 @@
 //! The tree of a source: a parser from tokens to the tree without types.
 #![tactic(auto)]
 
+mod cursor;
+mod grammar;
+mod signs;
+mod stops;
 mod symbols;
