@@ -1,5 +1,6 @@
 pub mod Choices
 pub mod Exact
 pub mod Heads
+pub mod Repeats
 pub mod Sets
 pub mod Tests
