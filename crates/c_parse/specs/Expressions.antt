@@ -18,74 +18,11 @@ use Rattle.c_parse.specs.declared.signs.Prefix.{Prefix}
 use Rattle.c_parse.specs.declared.signs.Prefix.TheVariants.{Sign, Step}
 use Rattle.c_parse.specs.declared.grammar.Part.{Part}
 use Rattle.c_parse.specs.declared.grammar.Part.TheVariants as part
+use Rattle.c_parse.specs.Signs.{binary_of, prefix_of, prefixed, assigns, base_of, begins_base, is_number, is_star, is_mark, is_key}
 use Rattle.c_parse.specs.Symbols.{Sym}
-use Rattle.c_parse.specs.Reading.{Read, Got, Fails, Reader, ◌>>=◌, ◌>>◌, pure, refuse, next, here, advance, bytes, class_at, sees, is_mark, is_key, behind_if, eat, eat_key, expect, name, separated, repeat, within}
-
--- ---- signs
-
--- the level of a sign between operands, from the tightest
-abbrev pub level_of : Binary → ℕ
-level_of binary_sign.Multiply = 0
-level_of binary_sign.Divide = 0
-level_of binary_sign.Remainder = 0
-level_of binary_sign.Add = 1
-level_of binary_sign.Subtract = 1
-level_of binary_sign.ShiftLeft = 2
-level_of binary_sign.ShiftRight = 2
-level_of binary_sign.Less = 3
-level_of binary_sign.Greater = 3
-level_of binary_sign.LessEqual = 3
-level_of binary_sign.GreaterEqual = 3
-level_of binary_sign.Equal = 4
-level_of binary_sign.NotEqual = 4
-level_of binary_sign.BitAnd = 5
-level_of binary_sign.BitXor = 6
-level_of binary_sign.BitOr = 7
-level_of binary_sign.And = 8
-level_of binary_sign.Or = 9
-
--- the sign between operands, if it is of this level
-abbrev pub binary_of : ℕ → Class → Option Binary
-binary_of level (class.Binary sign) = if level_of sign == level then Some sign else None
-binary_of level c = None
-
--- the sign before an operand that a sign between operands also is
-abbrev pub turned : Binary → Option Prefix
-turned binary_sign.Subtract = Some (Sign unary_sign.Minus)
-turned binary_sign.Add = Some (Sign unary_sign.Plus)
-turned binary_sign.Multiply = Some (Sign unary_sign.Indirection)
-turned binary_sign.BitAnd = Some (Sign unary_sign.Address)
-turned sign = None
-
--- the sign before an operand
-abbrev pub prefix_of : Class → Option Prefix
-prefix_of (class.Unary sign) = Some (Sign sign)
-prefix_of (class.Change change) = Some (Step change)
-prefix_of (class.Binary sign) = turned sign
-prefix_of c = None
-
-abbrev pub prefixed : Place → Prefix → x.Expr → x.Expr
-prefixed at (Sign sign) operand = x.Unary' at sign operand
-prefixed at (Step change) operand = x.Prefix at change operand
-
--- the sign of an assignment: None of =, and of a computing one that which it computes by
-abbrev pub assigns : Class → Option (Option Binary)
-assigns (class.Assign sign) = Some sign
-assigns c = None
+use Rattle.c_parse.specs.Reading.{Read, Got, Fails, Reader, ◌>>=◌, ◌>>◌, pure, refuse, next, here, advance, bytes, class_at, sees, behind_if, eat, eat_key, expect, name, separated, repeat, within}
 
 -- ---- types
-
--- the base that a key begins
-abbrev pub base_of : Class → Option Base
-base_of (class.Key key.Int) = Some base.Int
-base_of (class.Key key.Long) = Some base.Long
-base_of (class.Key key.Comm) = Some base.Comm
-base_of (class.Key key.Request) = Some base.Request
-base_of (class.Key key.Status) = Some base.Status
-base_of c = None
-
-abbrev pub begins_base : Class → Bool
-begins_base c = is_some (base_of c)
 
 -- a long may go on with int
 abbrev pub base_from : Option Base → Reader Base
@@ -97,15 +34,6 @@ unfoldable pub type_base : Reader Base
 type_base = do
   c ← next
   base_from (base_of c)
-
-abbrev pub is_number : Base → Bool
-is_number base.Int = true
-is_number base.Long = true
-is_number b = false
-
-abbrev pub is_star : Class → Bool
-is_star (class.Binary binary_sign.Multiply) = true
-is_star c = false
 
 unfoldable pub sees_star : Base → List Sym → Bool
 sees_star b ts = is_number b && is_star (class_at ts)

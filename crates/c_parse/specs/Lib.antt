@@ -1,6 +1,10 @@
 pub mod Ahead
+pub mod Declarations
 pub mod Expressions
 pub mod Grammar
 pub mod Phrases
 pub mod Reading
+pub mod Signs
+pub mod Sources
+pub mod Statements
 pub mod Symbols

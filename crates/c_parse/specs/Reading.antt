@@ -1,6 +1,5 @@
 -- What a reader with one symbol in view does, and the steps that every production is made of.
 use Rattle.std.specs.Prelude.{◌≡◌, ℕ, zero, suc, ◌+◌, ◌-◌, Bool, true, false, if◌then◌else◌, nat_lt, List, [], ◌∷◌, ◌++◌, length, take, drop, Result, Ok, Err, not}
-use denote.Enum.Bare.{sameb}
 use Rattle.c_tree.specs.declared.syntax.Place.{Place}
 use Rattle.c_parse.specs.declared.stops.Stop.{Stop}
 use Rattle.c_parse.specs.declared.stops.Stop.TheVariants.{Memory, Refused}
@@ -9,6 +8,7 @@ use Rattle.c_parse.specs.declared.symbols.Class.TheVariants as class
 use Rattle.c_parse.specs.declared.symbols.Key.{Key}
 use Rattle.c_parse.specs.declared.symbols.Mark.{Mark}
 use Rattle.c_parse.specs.declared.symbols.Mark.TheVariants as mark
+use Rattle.c_parse.specs.Signs.{is_mark, is_key, is_name}
 use Rattle.c_parse.specs.Symbols.{Sym}
 
 -- what was read and the symbols behind it, or the symbols from the one at which no production goes on
@@ -79,24 +79,6 @@ abbrev pub names : Reader (List (List ℕ))
 names = λ ts. Got (names_at ts) (behind ts)
 
 -- ---- marks, keys and names
-
-unfoldable pub same_mark : Mark → Mark → Bool
-same_mark = sameb Rattle.c_parse.specs.contracts.symbols.Mark.the_type
-
-unfoldable pub same_key : Key → Key → Bool
-same_key = sameb Rattle.c_parse.specs.contracts.symbols.Key.the_type
-
-abbrev pub is_mark : Mark → Class → Bool
-is_mark m (class.Mark found) = same_mark found m
-is_mark m c = false
-
-abbrev pub is_key : Key → Class → Bool
-is_key k (class.Key found) = same_key found k
-is_key k c = false
-
-abbrev pub is_name : Class → Bool
-is_name class.Name = true
-is_name c = false
 
 unfoldable pub sees : Mark → List Sym → Bool
 sees m ts = is_mark m (class_at ts)

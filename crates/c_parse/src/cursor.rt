@@ -1,9 +1,10 @@
 //! The symbols that are still ahead.
-ghost use Rattle.std.specs.Prelude.{◌≡◌, length, take, drop, map, IfOk};
+ghost use Rattle.std.specs.Prelude.{◌≡◌, length, take, drop, map, IfOk, OnOk};
 ghost use Rattle.c_parse.specs.Reading as spec;
 ghost use Rattle.c_parse.specs.Reading.{Reads, itself};
 ghost use Rattle.c_parse.specs.Symbols.{sym_of};
 
+use crate::signs::{is_key, is_mark, is_name};
 use crate::stops::Stop;
 use crate::symbols::{Class, Key, Mark, Symbol};
 use c_tree::syntax::Place;
@@ -79,4 +80,115 @@ impl<'a> Cursor<'a> {
             self.at += 1;
         }
     }
+
+    /// Whether this mark comes next.
+    #[tactic(auto, unfolding(crate::specs::Reading::sees))]
+    pub fn sees(&self, mark: Mark) -> bool
+        ensures { result ≡ spec.sees mark self.now }
+    {
+        is_mark(mark, self.class())
+    }
+
+    /// Whether this key comes next.
+    #[tactic(auto, unfolding(crate::specs::Reading::sees_key))]
+    pub fn sees_key(&self, key: Key) -> bool
+        ensures { result ≡ spec.sees_key key self.now }
+    {
+        is_key(key, self.class())
+    }
+
+    /// Goes behind the next symbol, if this is wanted.
+    #[tactic(auto, unfolding(crate::specs::Reading::behind_if))]
+    pub fn advance_if(&mut self, wanted: bool)
+        ensures { self.new ≡ spec.behind_if wanted self.old }
+    {
+        if wanted {
+            self.advance();
+        }
+    }
+
+    /// Goes behind this mark, if it comes next, and tells so.
+    pub fn eat(&mut self, mark: Mark) -> bool
+        ensures found { result ≡ spec.sees mark self.old }
+        ensures after { self.new ≡ spec.behind_if (spec.sees mark self.old) self.old }
+    {
+        let found = self.sees(mark);
+        self.advance_if(found);
+        found
+    }
+
+    /// Goes behind this key, if it comes next, and tells so.
+    pub fn eat_key(&mut self, key: Key) -> bool
+        ensures found { result ≡ spec.sees_key key self.old }
+        ensures after { self.new ≡ spec.behind_if (spec.sees_key key self.old) self.old }
+    {
+        let found = self.sees_key(key);
+        self.advance_if(found);
+        found
+    }
+
+    /// Goes behind this mark, which has to come next.
+    #[tactic(auto, unfolding(crate::specs::Reading::expect))]
+    pub fn expect(&mut self, mark: Mark) -> Result<(), Stop>
+        ensures { Reads itself (spec.expect mark self.old) result self.new }
+    {
+        if self.sees(mark) {
+            self.advance();
+            Ok(())
+        } else {
+            Err(Stop::Refused)
+        }
+    }
+
+    /// Goes behind this key, which has to come next.
+    #[tactic(auto, unfolding(crate::specs::Reading::expect_key))]
+    pub fn expect_key(&mut self, key: Key) -> Result<(), Stop>
+        ensures { Reads itself (spec.expect_key key self.old) result self.new }
+    {
+        if self.sees_key(key) {
+            self.advance();
+            Ok(())
+        } else {
+            Err(Stop::Refused)
+        }
+    }
+
+    /// The bytes of the next symbol, and the symbols behind it.
+    pub fn bytes(&mut self, alloc: Global) -> Result<Vec<u8>, Memory>
+        ensures bytes { IfOk result (λ v. v.items ≡ spec.bytes_at self.old) }
+        ensures after { OnOk result (self.new ≡ spec.behind self.old) }
+    {
+        let bytes = match self.symbols.get(self.at) {
+            Some(symbol) => Vec::from_slice(alloc, spelling(self.src, symbol))?,
+            None => Vec::new(alloc),
+        };
+        self.advance();
+        Ok(bytes)
+    }
+
+    /// Goes behind a name, which has to come next.
+    #[tactic(auto, unfolding(crate::specs::Reading::name))]
+    pub fn name(&mut self, alloc: Global) -> Result<Identifier, Stop>
+        ensures { Reads itself (spec.name self.old) result self.new }
+    {
+        if is_name(self.class()) {
+            Ok(Identifier::of(self.bytes(alloc)?))
+        } else {
+            Err(Stop::Refused)
+        }
+    }
+}
+
+// The bytes of a symbol, as far as they are in the source.
+fn spelling<'a>(src: &'a [u8], symbol: &Symbol) -> &'a [u8]
+    ensures { result.now ≡ take symbol.now.len (drop symbol.now.start src.entry.now) }
+{
+    if symbol.start > src.len() {
+        return &[];
+    }
+    let behind = &src[symbol.start..];
+    if symbol.len > behind.len() {
+        return behind;
+    }
+    &behind[..symbol.len]
 }

@@ -1,8 +1,8 @@
 //! What a sign means before an operand and between operands.
 ghost use Rattle.std.specs.Prelude.{◌≡◌};
-ghost use Rattle.c_parse.specs.Expressions as spec;
+ghost use Rattle.c_parse.specs.Signs as spec;
 
-use crate::symbols::{Class, Key};
+use crate::symbols::{Class, Key, Mark};
 use c_tree::syntax::{Base, Binary, Change, Unary};
 
 /// A sign before an operand.
@@ -105,4 +105,42 @@ pub fn is_star(class: Class) -> bool
     ensures { result ≡ spec.is_star class }
 {
     matches!(class, Class::Binary(Binary::Multiply))
+}
+
+#[tactic(auto, unfolding(crate::specs::Signs::same_mark))]
+fn same_mark(mark: Mark, other: Mark) -> bool
+    ensures { result ≡ spec.same_mark mark other }
+{
+    mark == other
+}
+
+#[tactic(auto, unfolding(crate::specs::Signs::same_key))]
+fn same_key(key: Key, other: Key) -> bool
+    ensures { result ≡ spec.same_key key other }
+{
+    key == other
+}
+
+pub fn is_mark(mark: Mark, class: Class) -> bool
+    ensures { result ≡ spec.is_mark mark class }
+{
+    match class {
+        Class::Mark(found) => same_mark(found, mark),
+        _ => false,
+    }
+}
+
+pub fn is_key(key: Key, class: Class) -> bool
+    ensures { result ≡ spec.is_key key class }
+{
+    match class {
+        Class::Key(found) => same_key(found, key),
+        _ => false,
+    }
+}
+
+pub fn is_name(class: Class) -> bool
+    ensures { result ≡ spec.is_name class }
+{
+    matches!(class, Class::Name)
 }
