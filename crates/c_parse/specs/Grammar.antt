@@ -21,8 +21,8 @@ use Rattle.c_parse.specs.declared.grammar.Part.{Part}
 use Rattle.c_parse.specs.declared.grammar.Part.TheVariants as part
 use Rattle.c_parse.specs.Symbols.{Sym}
 use Rattle.c_parse.specs.Phrases.{Phrase, nothing, give, one, ◌>>=◌, ◌>>◌, ◌or◌, repeat, placed, at_most}
-use Rattle.c_parse.specs.Reading.{is_mark, is_key, is_name}
-use Rattle.c_parse.specs.Expressions.{binary_of, prefix_of, prefixed, assigns, base_of, is_number, is_star, arguments_of}
+use Rattle.c_parse.specs.Signs.{is_mark, is_key, is_name, binary_of, prefix_of, prefixed, assigns, base_of, is_number, is_star}
+use Rattle.c_parse.specs.Expressions.{arguments_of}
 
 -- ---- symbols
 
