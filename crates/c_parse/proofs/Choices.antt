@@ -26,6 +26,8 @@ widen {g = g} s' g' e h k = record {
   fails = e.fails;
   complete = λ w a p rest st. e.complete w a p rest (stops_more (g a) (g' a) rest (k a) st);
   through = e.through;
+  closed = e.closed;
+  clean = e.clean;
 }
 
 -- ---- another reader that does the same
@@ -41,6 +43,8 @@ by_reader t e h = record {
   fails = λ ts x q. e.fails ts x (sym (h ts) ∙ q);
   complete = λ w a p rest st. h (w ++ rest) ∙ e.complete w a p rest st;
   through = λ f p rest. omega (arith, ap left (h (f ++ rest)), e.through f p rest);
+  closed = e.closed;
+  clean = e.clean;
 }
 
 -- ---- another phrase that says the same
@@ -65,6 +69,8 @@ by_phrase q e h = record {
   fails = λ ts x y. ends_as h.begun (e.fails ts x y);
   complete = λ w a k rest st. e.complete w a (h.spelt_back w a k) rest st;
   through = λ f k rest. e.through f (h.begun_back f k) rest;
+  closed = λ u v k. h.begun u (e.closed u v (h.begun_back (u ++ v) k));
+  clean = λ w k. e.clean w (h.begun_back w k);
 }
 
 pub same_refl : {A : Type 0} (p : Phrase A) → Same p p
@@ -299,6 +305,8 @@ module _ {A : Type 0} (p q : Phrase A) (r t u : Reader A) (sp sq : List ℕ) (gp
     fails = or_fails;
     complete = λ w a h rest st. ⊎_elim (λ x. or_complete_p w a x rest st) (λ x. or_complete_q w a x rest st) h;
     through = λ f h rest. ⊎_elim (λ x. or_through_p f x rest) (λ x. or_through_q f x rest) h;
+    closed = λ u v h. ⊎_elim (λ x. inl (ep.closed u v x)) (λ x. inr (eq.closed u v x)) h;
+    clean = λ w h. ⊎_elim (ep.clean w) (eq.clean w) h;
   }
 
 -- ---- a phrase that knows where it begins
@@ -326,6 +334,10 @@ module _ {A : Type 0} (k : Place → Phrase A) (r : Place → Reader A) (s : Lis
   same_place [] = refl
   same_place (c ∷ ts) = refl
 
+  placed_closed : (u v : List Sym) → (k (place_of (u ++ v))).front (u ++ v) → (k (place_of u)).front u
+  placed_closed [] v h = (e (place_of [])).empty
+  placed_closed (c ∷ u) v h = (e c.at).closed (c ∷ u) v h
+
   pub placed_exact : Exact (placed k) (here >>= r) s g true
   placed_exact = record {
     whole = λ w a h. (e (place_of w)).whole w a h;
@@ -336,4 +348,6 @@ module _ {A : Type 0} (k : Place → Phrase A) (r : Place → Reader A) (s : Lis
     fails = λ ts x q. (let d = (e (place_at ts)).fails ts x q in record { read = d.read; is = d.is; holds = placed_fails (place_at ts) d.read x (same_place ts ∙ ap place_of d.is) d.holds });
     complete = placed_complete;
     through = placed_through;
+    closed = placed_closed;
+    clean = λ w h. (e (place_of w)).clean w h;
   }

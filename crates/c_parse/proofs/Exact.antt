@@ -1,7 +1,9 @@
 -- When a reader reads a phrase exactly, and that it does so where its parts do.
 use Rattle.std.proofs.Common.{◌≡◌, ℕ, zero, suc, ◌+◌, ◌⊎◌, inl, inr, ⊎_elim, ◌≤◌, ◌<◌, Bool, true, false, cond, ◌&&◌, ◌||◌, not, List, [], ◌∷◌, ◌++◌, length, Option, Some, None, refl, sym, ap, ◌∙◌, subst, append_assoc, arith, length-append}
 use Rattle.std.proofs.lemmas.List.{append-nil}
+use Rattle.c_parse.specs.declared.symbols.Class.TheVariants as class
 use Rattle.c_parse.specs.Symbols.{Sym}
+use Rattle.c_parse.specs.Parsed.{NoneRefused}
 use Rattle.c_parse.specs.Phrases.{Phrase, Cut, IsOne, nothing, give, one, ◌or◌, place_of, placed, Steps, StepsFront}
 use Rattle.c_parse.specs.Phrases as ph
 use Rattle.c_parse.specs.Reading.{Read, Got, Fails, Reader, and_then, ◌>>=◌, pure}
@@ -33,6 +35,38 @@ pub record Exact {A : Type 0} (p : Phrase A) (r : Reader A) (starts : List ℕ) 
   pub fails : (ts x : List Sym) → r ts ≡ Fails x → Ends ts x p.front
   pub complete : (w : List Sym) (a : A) → p.spells w a → (rest : List Sym) → Stops (goes a) rest → r (w ++ rest) ≡ Got a rest
   pub through : (f : List Sym) → p.front f → (rest : List Sym) → left (r (f ++ rest)) ≤ length rest
+  pub closed : (u v : List Sym) → p.front (u ++ v) → p.front u
+  pub clean : (w : List Sym) → p.front w → NoneRefused w
+
+-- ---- lists
+
+pub empty_left : (u v : List Sym) → u ++ v ≡ [] → u ≡ []
+empty_left [] v e = refl
+empty_left (c ∷ u) v e = cc
+
+pub clean_append : (u v : List Sym) → NoneRefused u → NoneRefused v → NoneRefused (u ++ v)
+clean_append [] v h k = k
+clean_append (c ∷ u) v h k = (h.0, clean_append u v h.1 k)
+
+pub clean_empty : (w : List Sym) → w ≡ [] → NoneRefused w
+clean_empty w e = subst NoneRefused (sym e) tt
+
+-- a list cut twice: the first part of the one is within that of the other
+pub data Overlap (u v a b : List Sym) : Type 0 where
+  within_first : (m : List Sym) → a ≡ u ++ m → Overlap u v a b
+  over_first : (m : List Sym) → u ≡ a ++ m → b ≡ m ++ v → Overlap u v a b
+
+overlap_more : (c d : Sym) (u v a b : List Sym) → c ≡ d → Overlap u v a b → Overlap (c ∷ u) v (d ∷ a) b
+overlap_more c d u v a b e (within_first m p) = within_first m (let q : d ∷ a ≡ c ∷ (u ++ m) = cc in q)
+overlap_more c d u v a b e (over_first m p q) = over_first m (let h : c ∷ u ≡ d ∷ (a ++ m) = cc in h) q
+
+pub overlap : (u v a b : List Sym) → u ++ v ≡ a ++ b → Overlap u v a b
+overlap [] v a b e = within_first a refl
+overlap (c ∷ u) v [] b e = over_first (c ∷ u) refl (sym e)
+overlap (c ∷ u) v (d ∷ a) b e =
+    let p : c ≡ d = cc in
+    let q : u ++ v ≡ a ++ b = cc in
+    overlap_more c d u v a b p (overlap u v a b q)
 
 -- ---- what is read, cut at a step
 
@@ -63,6 +97,8 @@ give_exact {A} a = record {
   fails = λ ts x e. cc;
   complete = λ w b h rest _. complete w b h rest;
   through = λ f h rest. through f h rest;
+  closed = λ u v h. empty_left u v h;
+  clean = λ w h. clean_empty w h;
 }
   where
     got : (ts : List Sym) (b : A) (rest : List Sym) → Got a ts ≡ Got b rest → Ends ts rest (λ w. (w ≡ []) × (b ≡ a))
@@ -84,6 +120,8 @@ nothing_exact {A} = record {
   fails = λ ts x e. fails ts x e;
   complete = λ w b h rest _. absurd h;
   through = λ f h rest. through f h rest;
+  closed = λ u v h. empty_left u v h;
+  clean = λ w h. clean_empty w h;
 }
   where
     fails : (ts x : List Sym) → ◌≡◌ {A = Read A} (Fails ts) (Fails x) → Ends ts x (λ w. w ≡ [])
@@ -114,8 +152,8 @@ taken_less : {A : Type 0} (o : Option A) (s : Sym) (ts : List Sym) → left (tak
 taken_less None s ts = omega arith
 taken_less (Some b) s ts = omega arith
 
-pub one_exact : {A : Type 0} (read : Sym → Option A) (starts : List ℕ) → ((s : Sym) (a : A) → read s ≡ Some a → is_in starts (code s.class) ≡ true) → Exact (one read) (take_one read) starts (λ _. []) true
-one_exact {A} read starts begins = record {
+pub one_exact : {A : Type 0} (read : Sym → Option A) (starts : List ℕ) → ((s : Sym) (a : A) → read s ≡ Some a → is_in starts (code s.class) ≡ true) → is_in starts 6 ≡ false → Exact (one read) (take_one read) starts (λ _. []) true
+one_exact {A} read starts begins plain = record {
   whole = λ w a h. inr (a, h);
   empty = inl refl;
   first = first;
@@ -124,6 +162,8 @@ one_exact {A} read starts begins = record {
   fails = fails;
   complete = λ w a h rest _. complete w a h rest;
   through = through;
+  closed = closed;
+  clean = clean;
 }
   where
     first : (s : Sym) (ts : List Sym) → (s ∷ ts ≡ []) ⊎ ((a : A) × IsOne read (s ∷ ts) a) → is_in starts (code s.class) ≡ true
@@ -143,6 +183,20 @@ one_exact {A} read starts begins = record {
     through : (f : List Sym) → (f ≡ []) ⊎ ((a : A) × IsOne read f a) → (rest : List Sym) → left (take_one read (f ++ rest)) ≤ length rest
     through f (inl e) rest = subst (λ l. left (take_one read (l ++ rest)) ≤ length rest) (sym e) (any_less rest)
     through f (inr h) rest = omega (arith, ap left (complete f h.0 h.1 rest))
+    closed : (u v : List Sym) → (u ++ v ≡ []) ⊎ ((a : A) × IsOne read (u ++ v) a) → (u ≡ []) ⊎ ((a : A) × IsOne read u a)
+    closed u v (inl e) = inl (empty_left u v e)
+    closed [] v (inr h) = inl refl
+    closed (c ∷ u) v (inr h) =
+        let e : c ∷ (u ++ v) ≡ h.1.0 ∷ [] = h.1.1 in
+        let tail : u ++ v ≡ [] = cc in
+        let z : u ≡ [] = empty_left u v tail in
+        inr (h.0, (h.1.0, (let k : c ∷ u ≡ h.1.0 ∷ [] = cc in k), h.1.2))
+    clean : (w : List Sym) → (w ≡ []) ⊎ ((a : A) × IsOne read w a) → NoneRefused w
+    clean w (inl e) = clean_empty w e
+    clean w (inr h) = subst NoneRefused (sym h.1.1) (kept h.1.0 h.0 h.1.2, tt)
+      where
+        kept : (s : Sym) (a : A) → read s ≡ Some a → s.class ≡ class.Refused → ⊥
+        kept s a e q = let y = begins s a e in let z : is_in starts (code s.class) ≡ is_in starts 6 = ap (λ c. is_in starts (code c)) q in cc
 
 -- ---- one behind another
 
@@ -223,6 +277,18 @@ module _ {A B : Type 0} (p : Phrase A) (k : A → Phrase B) (r : Reader A) (l : 
       ap (λ x. left (and_then (r x) l)) (ap (λ x. x ++ rest) c.is ∙ append_assoc c.before c.behind rest),
       after c.value c.behind c.before rest c.spelt c.follows)
 
+  bind_closed_in : (u v a b : List Sym) (x : A) → u ++ v ≡ a ++ b → p.spells a x → (k x).front b → Overlap u v a b → p.front u ⊎ Cut p.spells (λ a. (k a).front) u
+  bind_closed_in u v a b x e h f (within_first m q) = inl (ep.closed u m (subst p.front q (ep.whole a x h)))
+  bind_closed_in u v a b x e h f (over_first m q z) = inr (record { before = a; behind = m; value = x; is = q; spelt = h; follows = (ek x).closed m v (subst (k x).front z f) })
+
+  bind_closed : (u v : List Sym) → p.front (u ++ v) ⊎ Cut p.spells (λ a. (k a).front) (u ++ v) → p.front u ⊎ Cut p.spells (λ a. (k a).front) u
+  bind_closed u v (inl h) = inl (ep.closed u v h)
+  bind_closed u v (inr c) = bind_closed_in u v c.before c.behind c.value c.is c.spelt c.follows (overlap u v c.before c.behind c.is)
+
+  bind_clean : (w : List Sym) → p.front w ⊎ Cut p.spells (λ a. (k a).front) w → NoneRefused w
+  bind_clean w (inl h) = ep.clean w h
+  bind_clean w (inr c) = subst NoneRefused (sym c.is) (clean_append c.before c.behind (ep.clean c.before (ep.whole c.before c.value c.spelt)) ((ek c.value).clean c.behind c.follows))
+
   pub bind_exact : Exact (ph.◌>>=◌ p k) (r >>= l) s g n
   bind_exact = record {
     whole = bind_whole;
@@ -233,4 +299,6 @@ module _ {A B : Type 0} (p : Phrase A) (k : A → Phrase B) (r : Reader A) (l : 
     fails = bind_fails;
     complete = bind_complete;
     through = bind_through;
+    closed = bind_closed;
+    clean = bind_clean;
   }

@@ -5,7 +5,8 @@ use Rattle.c_parse.specs.Phrases.{Phrase, Cut, Steps, StepsFront, done, step, no
 use Rattle.c_parse.specs.Phrases as ph
 use Rattle.c_parse.specs.Reading.{Read, Got, Fails, Reader, and_then, ◌>>=◌, pure, repeat_from, repeat}
 use Rattle.c_parse.proofs.Sets.{code, is_in, apart, within, bool_is, apart_no, within_in, within_no, in_left, in_right}
-use Rattle.c_parse.proofs.Exact.{Exact, Ends, Stops, left, less, then_got, then_fails, then_less}
+use Rattle.c_parse.specs.Parsed.{NoneRefused}
+use Rattle.c_parse.proofs.Exact.{Exact, Ends, Stops, left, less, then_got, then_fails, then_less, clean_append, clean_empty, Overlap, within_first, over_first, overlap}
 use Rattle.c_parse.proofs.Choices.{stops_more}
 
 if_yes : {A : Type 0} (b : Bool) (x y : A) → b ≡ true → (if b then x else y) ≡ x
@@ -149,6 +150,22 @@ module _ {S : Type 0} (k : S → Phrase S) (next : S → Reader S) (stops : List
         ap left (one_turn n s u c before (d ∷ behind) rest h (apart_no sk gk (code d.class) parted (front_begins u d behind more))),
         loop_through more rest n (omega (arith, ap (λ x. length (x ++ rest)) e, ap length (append_assoc before (d ∷ behind) rest), length-append before (d ∷ behind ++ rest))))
 
+  pub clean_steps : {s t : S} {w : List Sym} → Steps Spells s w t → NoneRefused w
+  clean_steps (done {ts = w} e) = clean_empty w e
+  clean_steps {s = s} (step u before behind e h more) = subst NoneRefused (sym e) (clean_append before behind ((ek s).clean before ((ek s).whole before u h)) (clean_steps more))
+
+  pub front_clean : {s : S} {w : List Sym} → StepsFront Spells Front s w → NoneRefused w
+  front_clean {s = s} {w = w} (now f) = (ek s).clean w f
+  front_clean {s = s} (later u before behind e h more) = subst NoneRefused (sym e) (clean_append before behind ((ek s).clean before ((ek s).whole before u h)) (front_clean more))
+
+  closed_at : (s x : S) (u v before behind : List Sym) → Spells s before x → ((m : List Sym) → behind ≡ m ++ v → StepsFront Spells Front x m) → Overlap u v before behind → StepsFront Spells Front s u
+  closed_at s x u v before behind h more (within_first m z) = now ((ek s).closed u m (subst (k s).front z ((ek s).whole before x h)))
+  closed_at s x u v before behind h more (over_first m y z) = later x before m y h (more m z)
+
+  pub front_closed : {s : S} {w : List Sym} → StepsFront Spells Front s w → (u v : List Sym) → w ≡ u ++ v → StepsFront Spells Front s u
+  front_closed {s = s} (now f) u v e = now ((ek s).closed u v (subst (k s).front e f))
+  front_closed {s = s} (later x before behind e h more) u v q = closed_at s x u v before behind h (λ m z. front_closed more m v z) (overlap u v before behind (sym q ∙ e))
+
 -- a repetition that ends where no step begins
 module _ {S : Type 0} (k : S → Phrase S) (next : S → Reader S) (stops : List Sym → Bool) (sk gk : List ℕ)
          (ek : (s : S) → Exact (k s) (next s) sk (λ _. gk) true)
@@ -167,6 +184,8 @@ module _ {S : Type 0} (k : S → Phrase S) (next : S → Reader S) (stops : List
     fails = λ ts x e. loop_fails k next stops sk gk ek started parted (length ts) s ts x e;
     complete = λ w t h rest st. loop_complete k next stops sk gk ek started parted h rest (stops_more gk (g t) rest (more t) st) (ends t rest st) (length (w ++ rest)) (omega arith);
     through = λ f h rest. loop_through k next stops sk gk ek started parted h rest (length (f ++ rest)) (omega arith);
+    closed = λ u v h. front_closed k next stops sk gk ek started parted h u v refl;
+    clean = λ w h. front_clean k next stops sk gk ek started parted h;
   }
 
 -- a repetition, and what closes it
@@ -239,6 +258,10 @@ module _ {S B : Type 0} (k : S → Phrase S) (next : S → Reader S) (stops : Li
   until_fills s t [] v b e h f = (eq t).fills refl b (subst (λ l. (q t).spells l b) (sym e) f)
   until_fills s t (d ∷ u) v b e h f = cc
 
+  until_closed : (s t : S) (u v a b : List Sym) → Steps (λ u. (k u).spells) s a t → (q t).front b → Overlap u v a b → StepsFront (λ u. (k u).spells) (λ u. (k u).front) s u ⊎ Cut (λ us t. Steps (λ u. (k u).spells) s us t) (λ t. (q t).front) u
+  until_closed s t u v a b h f (within_first m e) = inl (front_closed k next stops sk gk ek started parted (steps_whole k next stops sk gk ek started parted h) u m e)
+  until_closed s t u v a b h f (over_first m e z) = inr (record { before = a; behind = m; value = t; is = e; spelt = h; follows = (eq t).closed m v (subst (q t).front z f) })
+
   pub until_exact : (s : S) → Exact (ph.◌>>=◌ (ph.repeat k s) q) (repeat stops next s >>= l) (sk ++ sq) gq true
   until_exact s = record {
     whole = λ w b c. inr (record { before = c.before; behind = c.behind; value = c.value; is = c.is; spelt = c.spelt; follows = (eq c.value).whole c.behind b c.follows });
@@ -251,4 +274,10 @@ module _ {S B : Type 0} (k : S → Phrase S) (next : S → Reader S) (stops : Li
     through = λ f h rest. ⊎_elim
       (λ x. then_less (repeat stops next s (f ++ rest)) l (length rest) (loop_through k next stops sk gk ek started parted x rest (length (f ++ rest)) (omega arith)) (λ a ts. less (eq a) ts))
       (λ c. until_through_cut s c.value f c.before c.behind c.is c.spelt c.follows rest) h;
+    closed = λ u v h. ⊎_elim
+      (λ x. inl (front_closed k next stops sk gk ek started parted x u v refl))
+      (λ c. until_closed s c.value u v c.before c.behind c.spelt c.follows (overlap u v c.before c.behind c.is)) h;
+    clean = λ w h. ⊎_elim
+      (λ x. front_clean k next stops sk gk ek started parted x)
+      (λ c. subst NoneRefused (sym c.is) (clean_append c.before c.behind (clean_steps k next stops sk gk ek started parted c.spelt) ((eq c.value).clean c.behind c.follows))) h;
   }

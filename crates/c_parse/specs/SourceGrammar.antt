@@ -1,4 +1,4 @@
--- The productions of a source, one definition each, and what a source's tokens spell (C99, section 6.9).
+-- The productions of a source, one definition each (C99, section 6.9).
 use Rattle.std.specs.Prelude.{◌≡◌, ℕ, Bool, true, false, List, [], ◌∷◌, ◌++◌, Option, Some, None}
 use Rattle.mpc_base.specs.declared.owners.Level.{Level}
 use Rattle.c_tree.specs.declared.syntax.Place.{Place}
@@ -15,7 +15,7 @@ use Rattle.c_parse.specs.Phrases.{Phrase, give, one, ◌>>=◌, ◌>>◌, ◌or�
 use Rattle.c_parse.specs.Grammar.{one_if, mark_, key_, name_, flag, type_name, type_base, star}
 use Rattle.c_parse.specs.DeclarationGrammar.{declaration_at, params}
 use Rattle.c_parse.specs.StatementGrammar.{body, inside}
-use Rattle.c_parse.specs.Sources.{most_deep, last_line}
+use Rattle.c_parse.specs.Sources.{most_deep}
 
 -- ";" | block
 unfoldable pub definition : Phrase (Option x.Body)
@@ -61,12 +61,3 @@ one_more_item found = do
 -- unit = { PRAGMA | decl | func }
 unfoldable pub unit : Phrase (List x.Item)
 unit = repeat one_more_item []
-
--- these symbols spell the tree
-pub record Spelt (ss : List Sym) (tree : x.Tree) : Type 0 where
-  pub items : unit.spells ss tree.items
-  pub last : tree.last_line ≡ last_line ss
-
--- a tree can begin with these symbols, as far as the grammar sees
-abbrev pub Viable : List Sym → Type 0
-Viable ss = unit.front ss

@@ -3,6 +3,9 @@
 
 mod cursor;
 mod grammar;
+mod refusals;
 mod signs;
 mod stops;
 mod symbols;
+
+pub use refusals::ParseRefusal;
