@@ -4,3 +4,4 @@ pub mod Heads
 pub mod Repeats
 pub mod Sets
 pub mod Tests
+pub mod Windows
