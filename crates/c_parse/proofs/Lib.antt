@@ -1,4 +1,11 @@
-pub mod Heads
-pub mod Depths
 pub mod Calls
+pub mod Choices
+pub mod Depths
+pub mod Exact
+pub mod Heads
+pub mod Repeats
+pub mod Sets
+pub mod Skips
+pub mod Tests
 pub mod Turns
+pub mod Windows

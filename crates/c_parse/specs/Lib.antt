@@ -1,10 +1,15 @@
 pub mod Ahead
+pub mod DeclarationGrammar
 pub mod Declarations
 pub mod Expressions
+pub mod Grammar
 pub mod Nests
+pub mod Parsed
 pub mod Phrases
 pub mod Reading
 pub mod Signs
+pub mod SourceGrammar
 pub mod Sources
+pub mod StatementGrammar
 pub mod Statements
 pub mod Symbols

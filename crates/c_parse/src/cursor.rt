@@ -81,6 +81,25 @@ impl<'a> Cursor<'a> {
         }
     }
 
+    /// The next symbols alone, of which there are at most so many.
+    pub fn window(&self, most: usize) -> Cursor<'a>
+        ensures { result ≡ take most self.now }
+    {
+        let end = self.at + most.min(self.symbols.len() - self.at);
+        Cursor {
+            src: self.src,
+            symbols: &self.symbols[..end],
+            at: self.at,
+        }
+    }
+
+    /// Goes behind so many symbols, or to the end.
+    pub fn skip(&mut self, count: usize)
+        ensures { self.new ≡ drop count self.old }
+    {
+        self.at += count.min(self.symbols.len() - self.at);
+    }
+
     /// Whether this mark comes next.
     #[tactic(auto, unfolding(crate::specs::Reading::sees))]
     pub fn sees(&self, mark: Mark) -> bool

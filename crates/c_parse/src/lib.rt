@@ -3,8 +3,11 @@
 
 mod binaries;
 mod cursor;
+mod declarations;
+mod expressions;
 mod grammar;
 mod nodes;
+mod params;
 mod primaries;
 mod refusals;
 mod signs;

@@ -1,13 +1,13 @@
-//! Where a source is refused.
+//! Why a source has no tree.
 
-/// Why tokens spell no tree. Lines and columns count from 1, columns in bytes.
+/// Why the tokens of a source spell no tree (C99, sections 6.5 to 6.9). Lines and columns count from
+/// 1, columns in bytes.
 #[derive(Clone, Copy, Debug, PartialEq, Eq, thiserror::Error)]
 pub enum ParseRefusal {
-    /// The first token with which the list of tokens can be no front of a source's any more, or
-    /// that is one more than an expression may have; where there is none, the end of the source.
+    /// The first token with which no tree can go on, or just behind the last byte.
     #[error("line {line}, column {col}: no tree goes on here")]
     Syntax { line: u32, col: u32 },
-    /// The line of the first refused pragma, where that stands at or before that place.
+    /// The first pragma that begins as a directive for shared variables, and is none.
     #[error("line {line}: no directive for shared variables is written so")]
     Pragma { line: u32 },
 }

@@ -1,0 +1,1 @@
+//! Declarations (C99, section 6.7).

@@ -1,0 +1,1 @@
+//! Parameters (C99, section 6.7.5.3).
