@@ -3,6 +3,7 @@ use Rattle.std.proofs.Common.{◌≡◌, ℕ, zero, suc, nat_lt, ◌-◌, ◌<�
 use Rattle.c_tree.specs.declared.syntax.Place.{Place}
 use Rattle.c_tree.specs.Syntax as x
 use Rattle.c_parse.specs.declared.grammar.Part.{Part}
+use Rattle.c_parse.specs.Statements.{inside, statement}
 use Rattle.c_parse.specs.Symbols.{Sym}
 use Rattle.c_parse.specs.Reading.{Got, Fails, and_then, repeat}
 use Rattle.c_parse.specs.Expressions.{Nest, nest, expr, climb, ends, operation}
@@ -37,3 +38,23 @@ climb_more n levels at first ts lt = let e : levels ≡ suc (levels - 1) = omega
 pub climb_none : (n : Nest) (levels : ℕ) (at : Place) (first : x.Expr) (ts : List Sym) → levels ≡ 0 → climb n levels at first ts ≡ Got first ts
 unfolding climb
 climb_none n levels at first ts e = ap (λ m. climb n m at first ts) e
+
+-- ---- statements
+
+pub no_inside : (d : ℕ) (ts : List Sym) → d ≡ 0 → (inside d).stmt ts ≡ Fails ts
+unfolding inside
+no_inside d ts e = ap (λ n. (inside n).stmt ts) e
+
+pub one_inside : (d : ℕ) (ts : List Sym) → 0 < d → (inside d).stmt ts ≡ statement (d - 1) ts
+unfolding inside statement
+one_inside d ts lt = let e : d ≡ suc (d - 1) = omega arith in ap (λ n. (inside n).stmt ts) e
+
+pub is_deep_inside : (d : ℕ) → nat_lt 0 d ≡ (inside d).deep
+unfolding inside
+is_deep_inside zero = refl
+is_deep_inside (suc d) = search (rules, tests)
+
+pub inner_depth : (d : ℕ) → d - 1 ≡ (inside d).depth
+unfolding inside
+inner_depth zero = refl
+inner_depth (suc d) = omega arith

@@ -3,6 +3,7 @@ pub mod Choices
 pub mod Depths
 pub mod Exact
 pub mod Heads
+pub mod ItemRows
 pub mod Repeats
 pub mod Sets
 pub mod Skips

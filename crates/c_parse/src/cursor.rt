@@ -185,6 +185,19 @@ impl<'a> Cursor<'a> {
         Ok(bytes)
     }
 
+    /// The names that the next symbol lists, and goes behind it.
+    pub fn names(&mut self, alloc: Global) -> Result<Identifiers, Memory>
+        ensures names { IfOk result (λ n. n ≡ spec.names_at self.old) }
+        ensures after { OnOk result (self.new ≡ spec.behind self.old) }
+    {
+        let names = match self.symbols.get(self.at) {
+            Some(symbol) => copied(alloc, &symbol.names)?,
+            None => Identifiers::of(Vec::new(alloc)),
+        };
+        self.advance();
+        Ok(names)
+    }
+
     /// Goes behind a name, which has to come next.
     #[tactic(auto, unfolding(crate::specs::Reading::name))]
     pub fn name(&mut self, alloc: Global) -> Result<Identifier, Stop>
@@ -210,4 +223,14 @@ fn spelling<'a>(src: &'a [u8], symbol: &Symbol) -> &'a [u8]
         return behind;
     }
     &behind[..symbol.len]
+}
+
+fn copied(alloc: Global, names: &Identifiers) -> Result<Identifiers, Memory>
+    ensures { IfOk result (λ n. n ≡ names.now) }
+{
+    let mut list = Vec::new(alloc);
+    for name in names.as_slice() {
+        list.push(Identifier::of(Vec::from_slice(alloc, name.as_slice())?))?;
+    }
+    Ok(Identifiers::of(list))
 }

@@ -2,6 +2,7 @@
 #![tactic(auto)]
 
 mod binaries;
+mod blocks;
 mod cursor;
 mod declarations;
 mod expressions;
@@ -11,6 +12,7 @@ mod params;
 mod primaries;
 mod refusals;
 mod signs;
+mod statements;
 mod stops;
 mod symbols;
 mod types;
