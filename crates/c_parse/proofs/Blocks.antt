@@ -30,7 +30,7 @@ self_eq x = grind (arith, nat_tests)
 first_in : (x : ℕ) (xs : List ℕ) → is_in (x ∷ xs) x ≡ true
 first_in x xs = ap (λ b. b || is_in xs x) (self_eq x)
 
-or_true : (b : Bool) → (b || true) ≡ true
+pub or_true : (b : Bool) → (b || true) ≡ true
 or_true true = refl
 or_true false = refl
 
@@ -222,7 +222,7 @@ when_exact {s = s} {g = g} false e = widen s g nothing_exact refl (λ _. refl)
 
 -- ---- repetitions with another step that is the same wherever it is made
 
-then_same : {A B : Type 0} (o : Read A) {k l : A → Reader B} → ((a : A) (rest : List Sym) → k a rest ≡ l a rest) → and_then o k ≡ and_then o l
+pub then_same : {A B : Type 0} (o : Read A) {k l : A → Reader B} → ((a : A) (rest : List Sym) → k a rest ≡ l a rest) → and_then o k ≡ and_then o l
 then_same (Got a rest) h = h a rest
 then_same (Fails rest) h = refl
 
@@ -234,3 +234,24 @@ repeat_is stops step other h (suc n) s ts = elim (bool_is (stops ts)) [
     | inr e ↦ if_no (stops ts) _ _ e ∙ (ap (λ o. and_then o (λ t rest. repeat_from stops step n t rest)) (h s ts e)
         ∙ (then_same (other s ts) (λ t rest. repeat_is stops step other h n t rest) ∙ sym (if_no (stops ts) _ _ e)))
     ]
+
+-- ---- a choice by the next symbol's class
+
+abbrev pub pick : {A : Type 0} → List ℕ → Reader A → Reader A → Reader A
+pick set r t [] = t []
+pick set r t (s ∷ ts) = if is_in set (code s.class) then r (s ∷ ts) else t (s ∷ ts)
+
+pub pick_exact : {A : Type 0} {p q : Phrase A} {r t : Reader A} {sp sq gp gq : List ℕ} (g : List ℕ)
+  → Exact p r sp (λ _. gp) true → Exact q t sq (λ _. gq) true → apart sq sp ≡ true → within gp g ≡ true → within gq g ≡ true
+  → Exact (p or q) (pick sp r t) (sp ++ sq) (λ _. g) true
+pick_exact {A} {p} {q} {r} {t} {sp} {sq} {gp} {gq} g ep eq h hp hq =
+    or_exact p q r t (pick sp r t) sp sq (λ _. gp) (λ _. gq) (λ _. g) true ep eq h
+      (λ s ts e. if_yes (is_in sp (code s.class)) _ _ e) (λ s ts e. if_no (is_in sp (code s.class)) _ _ e) refl (λ _. hp) (λ _. hq) (λ e. cc)
+
+pub if_yes_at : {A : Type 0} (b : Bool) (r t : Reader A) (ts : List Sym) → b ≡ true → (if b then r else t) ts ≡ r ts
+if_yes_at true r t ts e = refl
+if_yes_at false r t ts e = cc
+
+pub if_no_at : {A : Type 0} (b : Bool) (r t : Reader A) (ts : List Sym) → b ≡ false → (if b then r else t) ts ≡ t ts
+if_no_at true r t ts e = cc
+if_no_at false r t ts e = refl

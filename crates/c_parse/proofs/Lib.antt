@@ -5,4 +5,6 @@ pub mod Heads
 pub mod Repeats
 pub mod Sets
 pub mod Tests
+pub mod TypesRead
+pub mod UnaryRead
 pub mod Windows

@@ -150,3 +150,14 @@ no_left xs ys n h = elim (bool_is (is_in xs n)) [ inl q ↦ (let k = in_left xs 
 
 pub no_right : (xs ys : List ℕ) (n : ℕ) → is_in (xs ++ ys) n ≡ false → is_in ys n ≡ false
 no_right xs ys n h = elim (bool_is (is_in ys n)) [ inl q ↦ (let k = in_right xs ys n q in cc) | inr q ↦ q ]
+
+pub left_no : (a b : Bool) → (a || b) ≡ false → (a || false) ≡ false
+left_no true b e = cc
+left_no false b e = refl
+
+pub in_either : (xs ys : List ℕ) (n : ℕ) → is_in (xs ++ ys) n ≡ true → (is_in xs n ≡ true) ⊎ (is_in ys n ≡ true)
+in_either [] ys n h = inr h
+in_either (x ∷ xs) ys n h = elim (bool_is (nat_eq x n)) [
+      inl q ↦ inl (ap (λ v. v || is_in xs n) q)
+    | inr q ↦ (elim (in_either xs ys n (sym (ap (λ v. v || is_in (xs ++ ys) n) q) ∙ h)) [ inl k ↦ inl (ap (λ v. v || is_in xs n) q ∙ k) | inr k ↦ inr k ])
+    ]
