@@ -22,7 +22,7 @@ use Rattle.c_parse.specs.Grammar as gr
 use Rattle.c_parse.proofs.Sets.{code, is_in, apart, within, bool_is}
 use Rattle.c_parse.proofs.Tests.{in_mark, in_bases, BASES, in_prefixes, PREFIXES, in_names, NAMES, in_numbers, NUMBERS, in_texts, TEXTS, in_changes, CHANGES, tighter_codes}
 use Rattle.c_parse.proofs.Exact.{Exact, Stops, left, give_exact, nothing_exact, take_one, taken}
-use Rattle.c_parse.proofs.Choices.{Same, widen, by_reader, by_phrase, or_swap, or_exact, placed_exact, same_refl, same_sym, same_trans, same_bind, same_or, same_placed, or_then, factor, regroup, give_then}
+use Rattle.c_parse.proofs.Choices.{Same, widen, by_reader, by_phrase, or_swap, or_exact, placed_exact, same_refl, same_sym, same_trans, same_bind, same_or, same_placed, or_then, factor, regroup, give_then, nothing_then, nothing_twice, arrange}
 use Rattle.c_parse.proofs.Repeats.{repeat_exact}
 use Rattle.c_parse.proofs.Blocks.{token_then, seq, seq_maybe, map_same, one_as_exact, one_if_exact, mark_exact, key_exact, name_exact, branch, branch_exact, eaten, when_exact, repeat_is, pick, pick_exact, within_self, if_yes_at, if_no_at}
 use Rattle.c_parse.proofs.TypesRead.{type_base_exact, type_name_exact, separated_exact}
@@ -285,3 +285,26 @@ module _ (bp : Part → Phrase x.Expr) (br : Part → Reader x.Expr) (eb : Below
   unary_is true at [] = refl
   unary_is false at [] = refl
   unary_is deep at (s ∷ ts) = unary_is_at deep at s.at s.class s.bytes s.names ts
+
+  group_same : (deep : Bool) (at : Place) → Same (ph.◌>>=◌ (gr.grouped (phrases deep bp)) (steps_ deep at)) (when deep (ph.◌>>◌ (mark_ mark.Open) (group_rest deep at)))
+  unfolding gr.grouped
+  group_same true at = same_trans (regroup (mark_ mark.Open) _ (steps_ true at)) (same_bind (same_refl (mark_ mark.Open)) (λ _.
+      same_trans (regroup (bp part.Assign) (λ e. ph.◌>>◌ (mark_ mark.Close) (give e)) (steps_ true at)) (same_bind (same_refl (bp part.Assign)) (λ e.
+      same_trans (regroup (mark_ mark.Close) (λ _. give e) (steps_ true at)) (same_bind (same_refl (mark_ mark.Close)) (λ _.
+      give_then e (steps_ true at) (postfixes_exact true at e).empty))))))
+  group_same false at = nothing_then (steps_ false at)
+
+  bracket_same : (deep : Bool) (at : Place) → Same (gr.cast (phrases deep bp) at or when deep (ph.◌>>◌ (mark_ mark.Open) (group_rest deep at))) (when deep (ph.◌>>◌ (mark_ mark.Open) (cast_rest at or group_rest deep at)))
+  unfolding gr.cast
+  bracket_same true at = factor (mark_ mark.Open) (λ _. cast_rest at) (λ _. group_rest true at)
+  bracket_same false at = nothing_twice
+
+  arranged_same : (deep : Bool) (at : Place) → Same (arranged deep at) (gr.signed (phrases deep bp) at or gr.cast (phrases deep bp) at or gr.size_of (phrases deep bp) at or gr.postfix (phrases deep bp) at)
+  unfolding gr.postfix gr.primary
+  arranged_same deep at = same_sym (
+      same_trans (same_or (same_refl _) (same_trans (or_then (atom deep at) (gr.grouped (phrases deep bp)) (steps_ deep at)) (same_or (same_refl _) (group_same deep at))))
+      (same_trans (arrange _ _ _ _ _) (same_or (same_refl _) (same_or (bracket_same deep at) (same_refl _)))))
+
+  pub unary_exact : (deep : Bool) → Exact (gr.unary (phrases deep bp)) (ex.unary (readers deep br)) EXPR (λ _. STEPS) true
+  unfolding gr.unary ex.unary
+  unary_exact deep = by_reader _ (placed_exact _ (arranged_reader deep) EXPR (λ _. STEPS) (λ at. by_phrase _ (arranged_exact deep at) (arranged_same deep at))) (λ ts. unary_is deep (rd.place_at ts) ts)
