@@ -1,6 +1,7 @@
 pub mod Blocks
 pub mod Choices
 pub mod Exact
+pub mod ExpressionsRead
 pub mod Heads
 pub mod Repeats
 pub mod Sets
