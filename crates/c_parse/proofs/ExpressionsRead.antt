@@ -157,19 +157,20 @@ module _ (bp : Part → Phrase x.Expr) (br : Part → Reader x.Expr) (eb : Below
   abbrev value_reader : Place → x.Expr → Reader x.Expr
   value_reader at first = take_one (λ s. assigns s.class) >>= (λ sign. br part.Assign >>= (λ right. pure (x.Assign at sign first right)))
 
-  assigned : (at : Place) (first : x.Expr) (a : Place) (c : Class) (b : List ℕ) (n : List (List ℕ)) (ts : List Sym) → is_in (9 ∷ []) (code c) ≡ true → ex.assign_by r_ at first (assigns c) (record { at = a; class = c; bytes = b; names = n } ∷ ts) ≡ value_reader at first (record { at = a; class = c; bytes = b; names = n } ∷ ts)
+  assigned : (at : Place) (first : x.Expr) (a : Place) (c : Class) (b : List ℕ) (n : List (List ℕ)) (ts : List Sym) → is_in (9 ∷ 42 ∷ []) (code c) ≡ true → ex.assign_by r_ at first (assigns c) (record { at = a; class = c; bytes = b; names = n } ∷ ts) ≡ value_reader at first (record { at = a; class = c; bytes = b; names = n } ∷ ts)
   assigned at first a (class.Assign sign) b n ts e = refl
   assigned at first a (class.Key key.Int) b n ts e = cc
   assigned at first a (class.Mark mark.Open) b n ts e = cc
   assigned at first a (class.Binary binary.Multiply) b n ts e = cc
   assigned at first a c b n ts e = cc
 
-  chosen : (at : Place) (first : x.Expr) (c : Class) (ts : List Sym) → is_in (9 ∷ []) (code c) ≡ false → ex.assign_by r_ at first (assigns c) ts ≡ ex.choice r_ at first ts
-  chosen at first (class.Assign sign) ts e = cc
+  chosen : (at : Place) (first : x.Expr) (c : Class) (ts : List Sym) → is_in (9 ∷ 42 ∷ []) (code c) ≡ false → ex.assign_by r_ at first (assigns c) ts ≡ ex.choice r_ at first ts
+  chosen at first (class.Assign None) ts e = cc
+  chosen at first (class.Assign (Some sign)) ts e = cc
   chosen at first c ts e = refl
 
-  behind_first : (at : Place) (first : x.Expr) → Exact (ph.◌>>=◌ (one_as assigns) (λ sign. ph.◌>>=◌ (bp part.Assign) (λ right. give (x.Assign at sign first right))) or ph.◌>>=◌ (from 10 at first) (λ test. gr.choice p_ at test or give test)) (λ ts. ex.assign_by r_ at first (assigns (class_at ts)) ts) (9 ∷ (tighter_codes 10 ++ 39 ∷ [])) (λ _. after part.Assign) false
-  behind_first at first = or_exact _ _ (value_reader at first) (ex.choice r_ at first) _ (9 ∷ []) (tighter_codes 10 ++ 39 ∷ []) (λ _. after part.Assign) (λ _. after part.Cond) (λ _. after part.Assign) false
+  behind_first : (at : Place) (first : x.Expr) → Exact (ph.◌>>=◌ (one_as assigns) (λ sign. ph.◌>>=◌ (bp part.Assign) (λ right. give (x.Assign at sign first right))) or ph.◌>>=◌ (from 10 at first) (λ test. gr.choice p_ at test or give test)) (λ ts. ex.assign_by r_ at first (assigns (class_at ts)) ts) (9 ∷ 42 ∷ (tighter_codes 10 ++ 39 ∷ [])) (λ _. after part.Assign) false
+  behind_first at first = or_exact _ _ (value_reader at first) (ex.choice r_ at first) _ (9 ∷ 42 ∷ []) (tighter_codes 10 ++ 39 ∷ []) (λ _. after part.Assign) (λ _. after part.Cond) (λ _. after part.Assign) false
       (token_then (one_as_exact assigns ASSIGNS in_assigns refl) (λ sign. map_same (λ right. x.Assign at sign first right) (eb part.Assign)))
       (choice_exact at first) refl
       (λ s ts e. assigned at first s.at s.class s.bytes s.names ts e) (λ s ts e. chosen at first s.class (s ∷ ts) e) refl (λ _. refl) (λ _. refl) (λ _ _. refl)

@@ -1,5 +1,5 @@
 -- Sets of classes, as lists of numbers, so that what may begin a phrase and what may follow it are compared by computing.
-use Rattle.std.proofs.Common.{◌≡◌, ℕ, ◌+◌, ◌⊎◌, inl, inr, Bool, true, false, cond, ◌&&◌, ◌||◌, not, nat_eq, List, [], ◌∷◌, ◌++◌, refl, sym, ap, ◌∙◌, subst, arith}
+use Rattle.std.proofs.Common.{◌≡◌, ℕ, ◌+◌, ◌⊎◌, inl, inr, Bool, true, false, cond, ◌&&◌, ◌||◌, not, nat_eq, List, [], ◌∷◌, ◌++◌, Some, None, refl, sym, ap, ◌∙◌, subst, arith}
 use Rattle.std.proofs.lemmas.Bool.Decides.{nat_tests}
 use Rattle.c_parse.specs.Symbols.{Sym}
 use Rattle.c_parse.specs.declared.symbols.Class.{Class}
@@ -75,7 +75,8 @@ code class.Barrier = 5
 code class.Refused = 6
 code class.Other = 7
 code (class.Change change) = 8
-code (class.Assign sign) = 9
+code (class.Assign None) = 9
+code (class.Assign (Some sign)) = 42
 code (class.Unary sign) = 41
 code (class.Key k) = key_code k
 code (class.Mark m) = mark_code m

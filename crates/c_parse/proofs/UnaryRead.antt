@@ -39,7 +39,7 @@ STEPS = 8 ∷ 38 ∷ 32 ∷ 30 ∷ []
 abbrev pub after : Part → List ℕ
 after part.Unary = STEPS
 after part.Cond = 39 ∷ (tighter_codes 10 ++ STEPS)
-after part.Assign = 9 ∷ 39 ∷ (tighter_codes 10 ++ STEPS)
+after part.Assign = 9 ∷ 42 ∷ 39 ∷ (tighter_codes 10 ++ STEPS)
 
 abbrev pub Below : (Part → Phrase x.Expr) → (Part → Reader x.Expr) → Type 0
 Below bp br = (q : Part) → Exact (bp q) (br q) EXPR (λ _. after q) true
@@ -96,6 +96,7 @@ module _ (bp : Part → Phrase x.Expr) (br : Part → Reader x.Expr) (eb : Below
   primary_is_at deep at a (class.Key key.Int) b n ts = refl
   primary_is_at deep at a (class.Mark mark.Open) b n ts = refl
   primary_is_at deep at a (class.Binary binary.Multiply) b n ts = refl
+  primary_is_at deep at a (class.Assign None) b n ts = refl
   primary_is_at deep at a c b n ts = refl
 
   primary_is : (deep : Bool) (at : Place) (ts : List Sym) → ex.primary (readers deep br) at ts ≡ atom_reader deep at ts
@@ -159,12 +160,14 @@ module _ (bp : Part → Phrase x.Expr) (br : Part → Reader x.Expr) (eb : Below
   goes_in true (class.Mark mark.OpenSquare) e = cc
   goes_in true (class.Change change) e = cc
   goes_in true (class.Binary binary.Multiply) e = refl
+  goes_in true (class.Assign None) e = refl
   goes_in false (class.Key key.Int) e = refl
   goes_in false (class.Mark mark.Open) e = refl
   goes_in false (class.Mark mark.Dot) e = cc
   goes_in false (class.Mark mark.OpenSquare) e = cc
   goes_in false (class.Change change) e = cc
   goes_in false (class.Binary binary.Multiply) e = refl
+  goes_in false (class.Assign None) e = refl
   goes_in deep c e = refl
 
   steps_end : (deep : Bool) (rest : List Sym) → Stops (8 ∷ 38 ∷ 32 ∷ []) rest → ex.stops (readers deep br) rest ≡ true
@@ -180,6 +183,7 @@ module _ (bp : Part → Phrase x.Expr) (br : Part → Reader x.Expr) (eb : Below
   in_deep (class.Mark mark.OpenSquare) e = refl
   in_deep (class.Change change) e = refl
   in_deep (class.Binary binary.Multiply) e = cc
+  in_deep (class.Assign None) e = cc
   in_deep c e = cc
 
   in_flat : (c : Class) → is_in (8 ∷ 38 ∷ []) (code c) ≡ true → not (ex.goes_on (readers false br) c) ≡ false
@@ -188,6 +192,7 @@ module _ (bp : Part → Phrase x.Expr) (br : Part → Reader x.Expr) (eb : Below
   in_flat (class.Mark mark.Dot) e = refl
   in_flat (class.Change change) e = refl
   in_flat (class.Binary binary.Multiply) e = cc
+  in_flat (class.Assign None) e = cc
   in_flat c e = cc
 
   steps_begin_deep : (c : Sym) (ts : List Sym) → is_in (8 ∷ 38 ∷ 32 ∷ []) (code c.class) ≡ true → ex.stops (readers true br) (c ∷ ts) ≡ false
@@ -274,9 +279,11 @@ module _ (bp : Part → Phrase x.Expr) (br : Part → Reader x.Expr) (eb : Below
   unary_is_at true at a (class.Key key.Int) b n ts = refl
   unary_is_at true at a (class.Mark mark.Open) b n ts = refl
   unary_is_at true at a (class.Binary binary.Multiply) b n ts = refl
+  unary_is_at true at a (class.Assign None) b n ts = refl
   unary_is_at false at a (class.Key key.Int) b n ts = refl
   unary_is_at false at a (class.Mark mark.Open) b n ts = refl
   unary_is_at false at a (class.Binary binary.Multiply) b n ts = refl
+  unary_is_at false at a (class.Assign None) b n ts = refl
   unary_is_at true at a c b n ts = refl
   unary_is_at false at a c b n ts = refl
 
