@@ -133,7 +133,7 @@ no_refused_key : (k : Key) → is_in (key_code k ∷ []) 6 ≡ false
 no_refused_key key.Int = refl
 no_refused_key k = refl
 
-took : {A : Type 0} (b : Bool) (a : A) (s : Sym) (ts : List Sym) → (if b then Got a ts else Fails (s ∷ ts)) ≡ taken (if b then Some a else None) s ts
+pub took : {A : Type 0} (b : Bool) (a : A) (s : Sym) (ts : List Sym) → (if b then Got a ts else Fails (s ∷ ts)) ≡ taken (if b then Some a else None) s ts
 took true a s ts = refl
 took false a s ts = refl
 
@@ -255,3 +255,8 @@ if_yes_at false r t ts e = cc
 pub if_no_at : {A : Type 0} (b : Bool) (r t : Reader A) (ts : List Sym) → b ≡ false → (if b then r else t) ts ≡ t ts
 if_no_at true r t ts e = cc
 if_no_at false r t ts e = refl
+
+-- readers behind one another, grouped in another way
+pub regroup_read : {A B C : Type 0} (o : Read A) (k : A → Reader B) (l : B → Reader C) → and_then (and_then o k) l ≡ and_then o (λ a rest. and_then (k a rest) l)
+regroup_read (Got a rest) k l = refl
+regroup_read (Fails rest) k l = refl

@@ -1,5 +1,6 @@
 pub mod Blocks
 pub mod Choices
+pub mod DeclarationsRead
 pub mod Exact
 pub mod ExpressionsRead
 pub mod Heads

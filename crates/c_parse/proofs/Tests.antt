@@ -12,6 +12,7 @@ use Rattle.c_tree.specs.declared.syntax.Binary.{Binary}
 use Rattle.c_tree.specs.declared.syntax.Binary.TheVariants as binary
 use Rattle.c_parse.specs.Signs.{is_mark, is_key, is_name, same_mark, same_key, binary_of, prefix_of, assigns, base_of, is_star, level_of}
 use Rattle.c_parse.specs.Grammar.{number_as, is_text, change_as}
+use Rattle.c_parse.specs.DeclarationGrammar.{is_equals}
 use Rattle.c_parse.proofs.Sets.{code, mark_code, key_code, binary_code, is_in}
 
 abbrev pub BASES : List ℕ
@@ -277,3 +278,13 @@ in_key key.Status (class.Mark mark.Open) = refl
 in_key key.Status (class.Binary binary.Multiply) = refl
 in_key key.Status (class.Assign None) = refl
 in_key k c = refl
+
+abbrev pub EQUALS : List ℕ
+EQUALS = 9 ∷ []
+
+pub in_equals : (c : Class) → is_in EQUALS (code c) ≡ is_equals c
+in_equals (class.Key key.Int) = refl
+in_equals (class.Mark mark.Open) = refl
+in_equals (class.Binary binary.Multiply) = refl
+in_equals (class.Assign None) = refl
+in_equals c = refl
