@@ -174,7 +174,7 @@ passing test = one_if test (λ _. tt)
 pub branch_exact : {A : Type 0} {p q : Phrase A} {r t : Reader A} {sp sq : List ℕ} {gp gq : A → List ℕ} {np nq : Bool} (test : Class → Bool) (set : List ℕ) (g : A → List ℕ)
   → ((c : Class) → is_in set (code c) ≡ test c) → is_in set 6 ≡ false → test class.Other ≡ false
   → Exact p r sp gp np → Exact q t sq gq nq → apart sq set ≡ true
-  → ((a : A) → within (gp a) (g a) ≡ true) → ((a : A) → within (gq a) (g a) ≡ true) → (nq ≡ false → (a : A) → within set (g a) ≡ true)
+  → ((a : A) → within (gp a) (g a) ≡ true) → ((a : A) → within (gq a) (g a) ≡ true) → (nq ≡ false → (a : A) → q.spells [] a → within set (g a) ≡ true)
   → Exact ((ph.◌>>◌ (passing test) p) or q) (branch test r t) (set ++ sq) g nq
 branch_exact {A} {p} {q} {r} {t} {sp} {sq} {gp} {gq} {np} {nq} test set g same plain other ep eq parted goes_p goes_q goes_on =
     or_exact (ph.◌>>◌ (passing test) p) q (take_one read >>= (λ _. r)) t (branch test r t) set sq gp gq g nq
@@ -201,7 +201,7 @@ flag_is false ts = refl
 -- whether the phrase stands there
 pub flag_exact : (test : Class → Bool) (set : List ℕ) → ((c : Class) → is_in set (code c) ≡ test c) → is_in set 6 ≡ false → test class.Other ≡ false
   → Exact (flag (passing test)) (λ ts. Got (test (class_at ts)) (behind_if (test (class_at ts)) ts)) set (λ _. set) false
-flag_exact test set same plain other = widen set (λ _. set) (by_reader _ (branch_exact test set (λ _. set) same plain other (give_exact true) (give_exact false) refl (λ _. refl) (λ _. refl) (λ _ _. within_self set)) (λ ts. flag_is (test (class_at ts)) ts)) (within_when (set ++ []) set (λ n h. without n h)) (λ _. within_self set)
+flag_exact test set same plain other = widen set (λ _. set) (by_reader _ (branch_exact test set (λ _. set) same plain other (give_exact true) (give_exact false) refl (λ _. refl) (λ _. refl) (λ _ _ _. within_self set)) (λ ts. flag_is (test (class_at ts)) ts)) (within_when (set ++ []) set (λ n h. without n h)) (λ _. within_self set)
   where
     without : (n : ℕ) → is_in (set ++ []) n ≡ true → is_in set n ≡ true
     without n h = subst (λ l. is_in l n ≡ true) (append-nil set) h
@@ -260,3 +260,11 @@ if_no_at false r t ts e = refl
 pub regroup_read : {A B C : Type 0} (o : Read A) (k : A → Reader B) (l : B → Reader C) → and_then (and_then o k) l ≡ and_then o (λ a rest. and_then (k a rest) l)
 regroup_read (Got a rest) k l = refl
 regroup_read (Fails rest) k l = refl
+
+-- the same where what may follow depends on the value
+pub pick_over : {A : Type 0} {p q : Phrase A} {r t : Reader A} {sp sq : List ℕ} {gp gq : A → List ℕ} (g : A → List ℕ)
+  → Exact p r sp gp true → Exact q t sq gq true → apart sq sp ≡ true → ((a : A) → within (gp a) (g a) ≡ true) → ((a : A) → within (gq a) (g a) ≡ true)
+  → Exact (p or q) (pick sp r t) (sp ++ sq) g true
+pick_over {A} {p} {q} {r} {t} {sp} {sq} {gp} {gq} g ep eq h hp hq =
+    or_exact p q r t (pick sp r t) sp sq gp gq g true ep eq h
+      (λ s ts e. if_yes (is_in sp (code s.class)) _ _ e) (λ s ts e. if_no (is_in sp (code s.class)) _ _ e) refl hp hq (λ e. cc)

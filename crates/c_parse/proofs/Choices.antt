@@ -249,7 +249,7 @@ module _ {A : Type 0} (p q : Phrase A) (r t u : Reader A) (sp sq : List ℕ) (gp
          (first_of_q : (s : Sym) (ts : List Sym) → is_in sp (code s.class) ≡ false → u (s ∷ ts) ≡ t (s ∷ ts))
          (at_end : u [] ≡ t [])
          (goes_p : (a : A) → within (gp a) (g a) ≡ true) (goes_q : (a : A) → within (gq a) (g a) ≡ true)
-         (goes_on : nq ≡ false → (a : A) → within sp (g a) ≡ true) where
+         (goes_on : nq ≡ false → (a : A) → q.spells [] a → within sp (g a) ≡ true) where
 
   or_less : (ts : List Sym) → left (u ts) ≤ length ts
   or_less [] = omega (arith, ap left at_end, less eq [])
@@ -281,7 +281,7 @@ module _ {A : Type 0} (p q : Phrase A) (r t u : Reader A) (sp sq : List ℕ) (gp
 
   or_complete_empty : (a : A) → q.spells [] a → (rest : List Sym) → Stops (g a) rest → nq ≡ false → u rest ≡ Got a rest
   or_complete_empty a h [] st e = at_end ∙ eq.complete [] a h [] tt
-  or_complete_empty a h (s ∷ rest) st e = first_of_q s rest (within_no sp (g a) (code s.class) (goes_on e a) st) ∙ eq.complete [] a h (s ∷ rest) (stops_more (gq a) (g a) (s ∷ rest) (goes_q a) st)
+  or_complete_empty a h (s ∷ rest) st e = first_of_q s rest (within_no sp (g a) (code s.class) (goes_on e a h) st) ∙ eq.complete [] a h (s ∷ rest) (stops_more (gq a) (g a) (s ∷ rest) (goes_q a) st)
 
   or_complete_q : (w : List Sym) (a : A) → q.spells w a → (rest : List Sym) → Stops (g a) rest → u (w ++ rest) ≡ Got a rest
   or_complete_q [] a h rest st = ⊎_elim (λ e. absurd (eq.fills e a h)) (λ e. or_complete_empty a h rest st e) (bool_is nq)

@@ -48,7 +48,7 @@ len_exact : (d : ℕ) (pointer : Bool) → Exact (dg.len_of d pointer) (dc.len_o
 unfolding dg.len_of dc.len_of dc.begins_length sees
 len_exact d true = widen (32 ∷ []) (λ _. 32 ∷ []) (by_reader _ (give_exact None) (λ ts. eaten false ts (dc.len_in d >>= (λ value. pure (Some value))) (pure None))) refl (λ _. refl)
 len_exact d false = by_reader _ (branch_exact (is_mark mark.OpenSquare) (32 ∷ []) (λ _. 32 ∷ []) (in_mark mark.OpenSquare) refl refl
-    (seq (expression_exact d part.Cond) (λ len. token_then (mark_exact mark.CloseSquare) (λ _. give_exact (Some len))) refl) (give_exact None) refl (λ _. refl) (λ _. refl) (λ _ _. refl))
+    (seq (expression_exact d part.Cond) (λ len. token_then (mark_exact mark.CloseSquare) (λ _. give_exact (Some len))) refl) (give_exact None) refl (λ _. refl) (λ _. refl) (λ _ _ _. refl))
     (λ ts. eaten (is_mark mark.OpenSquare (class_at ts)) ts (dc.len_in d >>= (λ value. pure (Some value))) (pure None) ∙ if_same (is_mark mark.OpenSquare (class_at ts)) _ _ _ (len_in_is d (behind ts)))
 
 value_exact : (d : ℕ) → Exact (dg.value d) (dc.value d) (34 ∷ EXPR) (λ _. after part.Assign) true
@@ -64,7 +64,7 @@ equals_are c = refl
 
 initializer_exact : (d : ℕ) → Exact (dg.initializer d) (dc.initializer d) (9 ∷ []) (λ _. after part.Assign) false
 unfolding dg.initializer dc.initializer dc.sees_equals
-initializer_exact d = by_reader _ (branch_exact dg.is_equals EQUALS (λ _. after part.Assign) in_equals refl refl (value_exact d) (give_exact x.Nothing) refl (λ _. refl) (λ _. refl) (λ _ _. refl))
+initializer_exact d = by_reader _ (branch_exact dg.is_equals EQUALS (λ _. after part.Assign) in_equals refl refl (value_exact d) (give_exact x.Nothing) refl (λ _. refl) (λ _. refl) (λ _ _ _. refl))
     (λ ts. equals_is ts)
   where
     equals_is : (ts : List Sym) → and_then (Got (dc.is_equals (class_at ts)) (behind_if (dc.is_equals (class_at ts)) ts)) (λ has. if has then dc.value d else pure x.Nothing) ≡ (if dg.is_equals (class_at ts) then dc.value d (behind ts) else pure x.Nothing ts)
@@ -107,7 +107,7 @@ is_array_exact : (pointer : Bool) → Exact (dg.is_array pointer) (dc.is_array p
 unfolding dg.is_array dc.is_array dc.begins_length sees
 is_array_exact true = widen (32 ∷ []) (λ _. 32 ∷ []) (by_reader _ (give_exact false) (λ ts. eaten false ts (expect mark.CloseSquare >>= (λ _. pure true)) (pure false))) refl (λ _. refl)
 is_array_exact false = by_reader _ (branch_exact (is_mark mark.OpenSquare) (32 ∷ []) (λ _. 32 ∷ []) (in_mark mark.OpenSquare) refl refl
-    (token_then (mark_exact mark.CloseSquare) (λ _. give_exact true)) (give_exact false) refl (λ _. refl) (λ _. refl) (λ _ _. refl))
+    (token_then (mark_exact mark.CloseSquare) (λ _. give_exact true)) (give_exact false) refl (λ _. refl) (λ _. refl) (λ _ _ _. refl))
     (λ ts. eaten (is_mark mark.OpenSquare (class_at ts)) ts (expect mark.CloseSquare >>= (λ _. pure true)) (pure false))
 
 type_same : (base : Base) (pointer array : Bool) → dc.param_type base pointer array ≡ dg.param_type base pointer array

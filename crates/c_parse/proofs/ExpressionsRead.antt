@@ -142,7 +142,7 @@ module _ (bp : Part → Phrase x.Expr) (br : Part → Reader x.Expr) (eb : Below
       (maybe_both (climb_exact 10 (omega arith) at first) (λ test. by_reader _
         (branch_exact (is_mark mark.Question) (39 ∷ []) (λ _. after part.Cond) (in_mark mark.Question) refl refl
           (seq (eb part.Assign) (λ yes'. token_then (mark_exact mark.Colon) (λ _. map_same (λ no'. x.Choice at test yes' no') (eb part.Cond))) refl)
-          (give_exact test) refl (λ _. refl) (λ _. refl) (λ _ _. refl))
+          (give_exact test) refl (λ _. refl) (λ _. refl) (λ _ _ _. refl))
         (λ ts. eaten (is_mark mark.Question (class_at ts)) ts _ _)) refl) refl (λ _. refl)
 
   cond_same : (at : Place) → Same (gr.cond p_ at) (ph.◌>>=◌ (bp part.Unary) (λ first. ph.◌>>=◌ (from 10 at first) (λ test. gr.choice p_ at test or give test)))
@@ -173,7 +173,7 @@ module _ (bp : Part → Phrase x.Expr) (br : Part → Reader x.Expr) (eb : Below
   behind_first at first = or_exact _ _ (value_reader at first) (ex.choice r_ at first) _ (9 ∷ 42 ∷ []) (tighter_codes 10 ++ 39 ∷ []) (λ _. after part.Assign) (λ _. after part.Cond) (λ _. after part.Assign) false
       (token_then (one_as_exact assigns ASSIGNS in_assigns refl) (λ sign. map_same (λ right. x.Assign at sign first right) (eb part.Assign)))
       (choice_exact at first) refl
-      (λ s ts e. assigned at first s.at s.class s.bytes s.names ts e) (λ s ts e. chosen at first s.class (s ∷ ts) e) refl (λ _. refl) (λ _. refl) (λ _ _. refl)
+      (λ s ts e. assigned at first s.at s.class s.bytes s.names ts e) (λ s ts e. chosen at first s.class (s ∷ ts) e) refl (λ _. refl) (λ _. refl) (λ _ _ _. refl)
 
   assign_same : (at : Place) → Same (gr.assignment p_ at or gr.cond p_ at) (ph.◌>>=◌ (bp part.Unary) (λ first. ph.◌>>=◌ (one_as assigns) (λ sign. ph.◌>>=◌ (bp part.Assign) (λ right. give (x.Assign at sign first right))) or ph.◌>>=◌ (from 10 at first) (λ test. gr.choice p_ at test or give test)))
   unfolding gr.assignment

@@ -66,10 +66,10 @@ module _ (bp : Part → Phrase x.Expr) (br : Part → Reader x.Expr) (eb : Below
   called_exact : (deep : Bool) (at : Place) (called : List ℕ) → Exact (give (x.Name at called) or when deep (ph.◌>>◌ (mark_ mark.Open) (ph.◌>>=◌ (gr.arguments (phrases deep bp)) (λ es. give (x.Call at called (arguments_of es)))))) (ex.named (readers deep br) at called) (30 ∷ []) (λ _. 30 ∷ []) false
   unfolding ex.named ex.calls sees
   called_exact true at called = by_phrase _ (by_reader _ (branch_exact (is_mark mark.Open) (30 ∷ []) (λ _. 30 ∷ []) (in_mark mark.Open) refl refl
-      (map_same (λ es. x.Call at called (arguments_of es)) (arguments_exact true)) (give_exact (x.Name at called)) refl (λ _. refl) (λ _. refl) (λ _ _. refl))
+      (map_same (λ es. x.Call at called (arguments_of es)) (arguments_exact true)) (give_exact (x.Name at called)) refl (λ _. refl) (λ _. refl) (λ _ _ _. refl))
       (λ ts. eaten (is_mark mark.Open (class_at ts)) ts _ _)) (or_swap _ _)
   called_exact false at called = by_phrase _ (by_reader _ (widen (30 ∷ []) (λ _. 30 ∷ [])
-      (or_exact nothing (give (x.Name at called)) refuse (pure (x.Name at called)) (pure (x.Name at called)) [] [] (λ _. []) (λ _. []) (λ _. []) false nothing_exact (give_exact (x.Name at called)) refl (λ s ts e. cc) (λ s ts e. refl) refl (λ _. refl) (λ _. refl) (λ _ _. refl))
+      (or_exact nothing (give (x.Name at called)) refuse (pure (x.Name at called)) (pure (x.Name at called)) [] [] (λ _. []) (λ _. []) (λ _. []) false nothing_exact (give_exact (x.Name at called)) refl (λ s ts e. cc) (λ s ts e. refl) refl (λ _. refl) (λ _. refl) (λ _ _ _. refl))
       refl (λ _. refl)) (λ ts. eaten false ts (ex.arguments (readers false br) >>= (λ found. pure (x.Call at called (arguments_of found)))) (pure (x.Name at called)))) (or_swap _ _)
 
   named_exact : (deep : Bool) (at : Place) → Exact (gr.named (phrases deep bp) at) (name >>= ex.named (readers deep br) at) NAMES (λ _. 30 ∷ []) true
