@@ -6,6 +6,7 @@ pub mod ExpressionsRead
 pub mod Heads
 pub mod Repeats
 pub mod Sets
+pub mod StatementsRead
 pub mod Tests
 pub mod TypesRead
 pub mod UnaryRead
