@@ -249,7 +249,7 @@ module _ {A : Type 0} (p q : Phrase A) (r t u : Reader A) (sp sq : List ℕ) (gp
          (first_of_q : (s : Sym) (ts : List Sym) → is_in sp (code s.class) ≡ false → u (s ∷ ts) ≡ t (s ∷ ts))
          (at_end : u [] ≡ t [])
          (goes_p : (a : A) → within (gp a) (g a) ≡ true) (goes_q : (a : A) → within (gq a) (g a) ≡ true)
-         (goes_on : nq ≡ false → (a : A) → within sp (g a) ≡ true) where
+         (goes_on : nq ≡ false → (a : A) → q.spells [] a → within sp (g a) ≡ true) where
 
   or_less : (ts : List Sym) → left (u ts) ≤ length ts
   or_less [] = omega (arith, ap left at_end, less eq [])
@@ -281,7 +281,7 @@ module _ {A : Type 0} (p q : Phrase A) (r t u : Reader A) (sp sq : List ℕ) (gp
 
   or_complete_empty : (a : A) → q.spells [] a → (rest : List Sym) → Stops (g a) rest → nq ≡ false → u rest ≡ Got a rest
   or_complete_empty a h [] st e = at_end ∙ eq.complete [] a h [] tt
-  or_complete_empty a h (s ∷ rest) st e = first_of_q s rest (within_no sp (g a) (code s.class) (goes_on e a) st) ∙ eq.complete [] a h (s ∷ rest) (stops_more (gq a) (g a) (s ∷ rest) (goes_q a) st)
+  or_complete_empty a h (s ∷ rest) st e = first_of_q s rest (within_no sp (g a) (code s.class) (goes_on e a h) st) ∙ eq.complete [] a h (s ∷ rest) (stops_more (gq a) (g a) (s ∷ rest) (goes_q a) st)
 
   or_complete_q : (w : List Sym) (a : A) → q.spells w a → (rest : List Sym) → Stops (g a) rest → u (w ++ rest) ≡ Got a rest
   or_complete_q [] a h rest st = ⊎_elim (λ e. absurd (eq.fills e a h)) (λ e. or_complete_empty a h rest st e) (bool_is nq)
@@ -351,3 +351,36 @@ module _ {A : Type 0} (k : Place → Phrase A) (r : Place → Reader A) (s : Lis
     closed = placed_closed;
     clean = λ w h. (e (place_of w)).clean w h;
   }
+
+-- nothing has nothing behind it
+pub nothing_then : {A B : Type 0} (k : A → Phrase B) → Same (ph.◌>>=◌ nothing k) nothing
+nothing_then {A} {B} k = record { spelt = λ w b c. c.spelt; spelt_back = λ w b x. absurd x; begun = begun; begun_back = λ w x. inl x }
+  where
+    begun : (w : List Sym) → (w ≡ []) ⊎ Cut (λ ts a. ⊥) (λ a. (k a).front) w → w ≡ []
+    begun w (inl e) = e
+    begun w (inr c) = absurd c.spelt
+
+pub nothing_twice : {A : Type 0} → Same {A = A} (nothing or nothing) nothing
+nothing_twice = record { spelt = λ w a x. ⊎_elim (λ y. y) (λ y. y) x; spelt_back = λ w a x. inl x; begun = λ w x. ⊎_elim (λ y. y) (λ y. y) x; begun_back = λ w x. inl x }
+
+-- five choices in another order
+pub arrange : {A : Type 0} (s c z a g : Phrase A) → Same (((s or c) or z) or (a or g)) (s or ((c or g) or (z or a)))
+arrange s c z a g = record {
+  spelt = λ w v x. to (s.spells w v) (c.spells w v) (z.spells w v) (a.spells w v) (g.spells w v) x;
+  spelt_back = λ w v x. back (s.spells w v) (c.spells w v) (z.spells w v) (a.spells w v) (g.spells w v) x;
+  begun = λ w x. to (s.front w) (c.front w) (z.front w) (a.front w) (g.front w) x;
+  begun_back = λ w x. back (s.front w) (c.front w) (z.front w) (a.front w) (g.front w) x;
+}
+  where
+    to : (S C Z A G : Type 0) → (((S ⊎ C) ⊎ Z) ⊎ (A ⊎ G)) → S ⊎ ((C ⊎ G) ⊎ (Z ⊎ A))
+    to S C Z A G (inl (inl (inl x))) = inl x
+    to S C Z A G (inl (inl (inr x))) = inr (inl (inl x))
+    to S C Z A G (inl (inr x)) = inr (inr (inl x))
+    to S C Z A G (inr (inl x)) = inr (inr (inr x))
+    to S C Z A G (inr (inr x)) = inr (inl (inr x))
+    back : (S C Z A G : Type 0) → S ⊎ ((C ⊎ G) ⊎ (Z ⊎ A)) → (((S ⊎ C) ⊎ Z) ⊎ (A ⊎ G))
+    back S C Z A G (inl x) = inl (inl (inl x))
+    back S C Z A G (inr (inl (inl x))) = inl (inl (inr x))
+    back S C Z A G (inr (inl (inr x))) = inr (inr x)
+    back S C Z A G (inr (inr (inl x))) = inl (inr x)
+    back S C Z A G (inr (inr (inr x))) = inr (inl x)

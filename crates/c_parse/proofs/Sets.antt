@@ -1,5 +1,5 @@
 -- Sets of classes, as lists of numbers, so that what may begin a phrase and what may follow it are compared by computing.
-use Rattle.std.proofs.Common.{◌≡◌, ℕ, ◌+◌, ◌⊎◌, inl, inr, Bool, true, false, cond, ◌&&◌, ◌||◌, not, nat_eq, List, [], ◌∷◌, ◌++◌, refl, sym, ap, ◌∙◌, subst, arith}
+use Rattle.std.proofs.Common.{◌≡◌, ℕ, ◌+◌, ◌⊎◌, inl, inr, Bool, true, false, cond, ◌&&◌, ◌||◌, not, nat_eq, List, [], ◌∷◌, ◌++◌, Some, None, refl, sym, ap, ◌∙◌, subst, arith}
 use Rattle.std.proofs.lemmas.Bool.Decides.{nat_tests}
 use Rattle.c_parse.specs.Symbols.{Sym}
 use Rattle.c_parse.specs.declared.symbols.Class.{Class}
@@ -75,7 +75,8 @@ code class.Barrier = 5
 code class.Refused = 6
 code class.Other = 7
 code (class.Change change) = 8
-code (class.Assign sign) = 9
+code (class.Assign None) = 9
+code (class.Assign (Some sign)) = 42
 code (class.Unary sign) = 41
 code (class.Key k) = key_code k
 code (class.Mark m) = mark_code m
@@ -150,3 +151,14 @@ no_left xs ys n h = elim (bool_is (is_in xs n)) [ inl q ↦ (let k = in_left xs 
 
 pub no_right : (xs ys : List ℕ) (n : ℕ) → is_in (xs ++ ys) n ≡ false → is_in ys n ≡ false
 no_right xs ys n h = elim (bool_is (is_in ys n)) [ inl q ↦ (let k = in_right xs ys n q in cc) | inr q ↦ q ]
+
+pub left_no : (a b : Bool) → (a || b) ≡ false → (a || false) ≡ false
+left_no true b e = cc
+left_no false b e = refl
+
+pub in_either : (xs ys : List ℕ) (n : ℕ) → is_in (xs ++ ys) n ≡ true → (is_in xs n ≡ true) ⊎ (is_in ys n ≡ true)
+in_either [] ys n h = inr h
+in_either (x ∷ xs) ys n h = elim (bool_is (nat_eq x n)) [
+      inl q ↦ inl (ap (λ v. v || is_in xs n) q)
+    | inr q ↦ (elim (in_either xs ys n (sym (ap (λ v. v || is_in (xs ++ ys) n) q) ∙ h)) [ inl k ↦ inl (ap (λ v. v || is_in xs n) q ∙ k) | inr k ↦ inr k ])
+    ]

@@ -74,7 +74,7 @@ star_ = one_if is_star (λ _. tt)
 -- [ "[" "]" ], not behind a *
 unfoldable pub is_array : Bool → Phrase Bool
 is_array true = give false
-is_array false = flag (mark_ mark.OpenSquare >> mark_ mark.CloseSquare)
+is_array false = (do mark_ mark.OpenSquare; mark_ mark.CloseSquare; give true) or give false
 
 abbrev pub param_type : Base → Bool → Bool → ParamType
 param_type base pointer true = Array base

@@ -39,12 +39,12 @@ function at = do
   called ← name_
   function_of at is_static returns called
 
+abbrev pub scope_by : Class → List (List ℕ) → Option (Level × List (List ℕ))
+scope_by (class.Scope level) names = Some (level, names)
+scope_by c names = None
+
 abbrev pub scope_as : Sym → Option (Level × List (List ℕ))
-scope_as s = by s.class
-  where
-    by : Class → Option (Level × List (List ℕ))
-    by (class.Scope level) = Some (level, s.names)
-    by c = None
+scope_as s = scope_by s.class s.names
 
 -- PRAGMA | decl | func
 unfoldable pub item : Phrase x.Item

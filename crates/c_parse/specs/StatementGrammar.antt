@@ -35,17 +35,22 @@ is_open (x.While at test body) = is_open body
 is_open (x.For at head test step body) = is_open body
 is_open s = false
 
--- the names that a directive lists
+-- the names that a directive lists, and whether it is nowait
+abbrev pub single_by : Class → List (List ℕ) → Option (List (List ℕ) × Bool)
+single_by (class.Single nowait) names = Some (names, nowait)
+single_by c names = None
+
 abbrev pub single_as : Sym → Option (List (List ℕ) × Bool)
-single_as s = by s.class
-  where
-    by : Class → Option (List (List ℕ) × Bool)
-    by (class.Single nowait) = Some (s.names, nowait)
-    by c = None
+single_as s = single_by s.class s.names
 
 abbrev pub is_barrier : Class → Bool
 is_barrier class.Barrier = true
 is_barrier c = false
+
+-- what a for begins with, where it declares nothing
+abbrev pub evaluated : Option x.Expr → x.ForHead
+evaluated None = x.Bare
+evaluated (Some value) = x.Evaluated value
 
 module _ (inside : Inside) where
   -- decl | stmt, one deeper
@@ -109,10 +114,6 @@ module _ (inside : Inside) where
   for_head =
       (do found ← declaration inside.depth; give (x.Declared found))
       or (do value ← optional inside.depth mark.Semicolon; give (evaluated value))
-    where
-      evaluated : Option x.Expr → x.ForHead
-      evaluated None = x.Bare
-      evaluated (Some value) = x.Evaluated value
 
   -- "for" "(" ( decl | [expr] ";" ) [expr] ";" [expr] ")" stmt ^
   unfoldable pub for_ : Place → Phrase x.Stmt

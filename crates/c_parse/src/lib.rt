@@ -2,7 +2,7 @@
 #![tactic(auto)]
 
 mod binaries;
-mod blocks;
+mod bodies;
 mod cursor;
 mod declarations;
 mod expressions;

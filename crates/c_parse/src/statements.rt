@@ -6,7 +6,7 @@ ghost use Rattle.c_parse.specs.Reading.{Reads, advance, itself, refuse};
 ghost use Rattle.c_parse.specs.declared.symbols.Class.TheVariants as class;
 ghost use Rattle.c_parse.specs.Statements as spec;
 
-use crate::blocks::Statements;
+use crate::bodies::Statements;
 use crate::cursor::Cursor;
 use crate::declarations::{begins_declaration, declaration};
 use crate::expressions::expression;

@@ -3,7 +3,7 @@ use Rattle.c_parse.specs.declared.symbols.Mark.TheVariants.{CloseBrace}
 use Rattle.c_parse.specs.Reading.{sees}
 use Rattle.c_parse.specs.Statements.{inside, one_more_item}
 use Rattle.c_parse.proofs.Turns.{turn_steps, turn_stops, turns_over}
-use Rattle.c_parse.proofs.blocks.Statements.items.Goals as goal
+use Rattle.c_parse.proofs.bodies.Statements.items.Goals as goal
 
 pub loop-turn-preserved : goal.loop-turn-preserved
 loop-turn-preserved g c =

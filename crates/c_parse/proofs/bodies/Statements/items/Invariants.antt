@@ -3,7 +3,7 @@ use Rattle.c_tree.specs.SyntaxOf.{stmt_of}
 use Rattle.c_parse.specs.declared.symbols.Mark.TheVariants.{CloseBrace}
 use Rattle.c_parse.specs.Reading.{sees, repeat_from}
 use Rattle.c_parse.specs.Statements.{inside, items, one_more_item}
-use Rattle.c_parse.proofs.blocks.Statements.items.Given as goal
+use Rattle.c_parse.proofs.bodies.Statements.items.Given as goal
 
 abbrev pub invariant-loop-turn : goal.invariant-loop-turn
 invariant-loop-turn g l =
