@@ -7,6 +7,7 @@ pub mod Exact
 pub mod ExpressionsRead
 pub mod Heads
 pub mod ItemRows
+pub mod LastLines
 pub mod Repeats
 pub mod Sets
 pub mod Skips

@@ -81,7 +81,10 @@ last_line [] = 1
 last_line (s ∷ []) = s.at.line
 last_line (s ∷ t ∷ ts) = last_line (t ∷ ts)
 
+abbrev pub items : Reader (List x.Item)
+items = repeat is_over one_more_item []
+
 unfoldable pub source : Reader x.Tree
 source = λ ts. (do
-  found ← repeat is_over one_more_item []
+  found ← items
   pure (record { items = found; last_line = last_line ts })) ts

@@ -1,7 +1,8 @@
 //! The symbols that are still ahead.
-ghost use Rattle.std.specs.Prelude.{◌≡◌, length, take, drop, map, IfOk, OnOk};
+ghost use Rattle.std.specs.Prelude.{◌≡◌, ℕ, List, length, take, drop, map, IfOk, OnOk};
 ghost use Rattle.c_parse.specs.Reading as spec;
 ghost use Rattle.c_parse.specs.Reading.{Reads, itself};
+ghost use Rattle.c_parse.specs.Sources.{is_over, last_line};
 ghost use Rattle.c_parse.specs.Symbols.{sym_of};
 
 use crate::signs::{is_key, is_mark, is_name};
@@ -70,6 +71,20 @@ impl<'a> Cursor<'a> {
             Some(symbol) => symbol.at,
             None => Place { line: 1, col: 1 },
         }
+    }
+
+    /// Whether no symbol is ahead.
+    pub fn is_over(&self) -> bool
+        ensures { result ≡ is_over self.now }
+    {
+        self.symbols.get(self.at).is_none()
+    }
+
+    /// The line of the last symbol that is ahead, or 1 where none is.
+    pub fn last_line(&self) -> u32
+        ensures { result ≡ last_line self.now }
+    {
+        last_line_of(&self.symbols[self.at..])
     }
 
     /// Goes behind the next symbol, where there is one.
@@ -209,6 +224,17 @@ impl<'a> Cursor<'a> {
             Err(Stop::Refused)
         }
     }
+}
+
+// The line of the last symbol, or 1 where there is none.
+fn last_line_of(symbols: &[Symbol]) -> u32
+    ensures { (src : List ℕ) → result ≡ last_line (map (sym_of src) symbols.now) }
+{
+    let mut line = 1;
+    for symbol in symbols {
+        line = symbol.at.line;
+    }
+    line
 }
 
 // The bytes of a symbol, as far as they are in the source.

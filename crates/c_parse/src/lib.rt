@@ -12,6 +12,7 @@ mod params;
 mod primaries;
 mod refusals;
 mod signs;
+mod sources;
 mod statements;
 mod stops;
 mod symbols;
