@@ -10,6 +10,7 @@ pub mod ItemRows
 pub mod LastLines
 pub mod Repeats
 pub mod Sets
+pub mod Shown
 pub mod Skips
 pub mod StatementsRead
 pub mod Tests

@@ -11,6 +11,7 @@ pub mod Reading
 pub mod Signs
 pub mod SourceGrammar
 pub mod Sources
+pub mod Spellings
 pub mod StatementGrammar
 pub mod Statements
 pub mod Symbols

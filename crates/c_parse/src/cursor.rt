@@ -8,6 +8,7 @@ ghost use Rattle.c_parse.specs.Symbols.{sym_of};
 use crate::signs::{is_key, is_mark, is_name};
 use crate::stops::Stop;
 use crate::symbols::{Class, Key, Mark, Symbol};
+use crate::tokens::part;
 use c_tree::syntax::Place;
 use c_tree::{Identifier, Identifiers};
 use mpc_base::{Memory, Text};
@@ -193,7 +194,7 @@ impl<'a> Cursor<'a> {
         ensures after { OnOk result (self.new ≡ spec.behind self.old) }
     {
         let bytes = match self.symbols.get(self.at) {
-            Some(symbol) => Vec::from_slice(alloc, spelling(self.src, symbol))?,
+            Some(symbol) => Vec::from_slice(alloc, part(self.src, symbol.start, symbol.len))?,
             None => Vec::new(alloc),
         };
         self.advance();
@@ -235,20 +236,6 @@ fn last_line_of(symbols: &[Symbol]) -> u32
         line = symbol.at.line;
     }
     line
-}
-
-// The bytes of a symbol, as far as they are in the source.
-fn spelling<'a>(src: &'a [u8], symbol: &Symbol) -> &'a [u8]
-    ensures { result.now ≡ take symbol.now.len (drop symbol.now.start src.entry.now) }
-{
-    if symbol.start > src.len() {
-        return &[];
-    }
-    let behind = &src[symbol.start..];
-    if symbol.len > behind.len() {
-        return behind;
-    }
-    &behind[..symbol.len]
 }
 
 fn copied(alloc: Global, names: &Identifiers) -> Result<Identifiers, Memory>

@@ -16,6 +16,7 @@ mod sources;
 mod statements;
 mod stops;
 mod symbols;
+mod tokens;
 mod types;
 mod unaries;
 
