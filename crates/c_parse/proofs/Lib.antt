@@ -4,8 +4,11 @@ pub mod DeclarationsRead
 pub mod Exact
 pub mod ExpressionsRead
 pub mod Heads
+pub mod ItemsRead
+pub mod Laws
 pub mod Repeats
 pub mod Sets
+pub mod SourcesRead
 pub mod StatementsRead
 pub mod Tests
 pub mod TypesRead
