@@ -3,6 +3,8 @@ pub mod DeclarationGrammar
 pub mod Declarations
 pub mod Expressions
 pub mod Grammar
+pub mod Insides
+pub mod Nests
 pub mod Parsed
 pub mod Phrases
 pub mod Reading

@@ -81,6 +81,25 @@ impl<'a> Cursor<'a> {
         }
     }
 
+    /// The next symbols alone, of which there are at most so many.
+    pub fn window(&self, most: usize) -> Cursor<'a>
+        ensures { result ≡ take most self.now }
+    {
+        let end = self.at + most.min(self.symbols.len() - self.at);
+        Cursor {
+            src: self.src,
+            symbols: &self.symbols[..end],
+            at: self.at,
+        }
+    }
+
+    /// Goes behind so many symbols, or to the end.
+    pub fn skip(&mut self, count: usize)
+        ensures { self.new ≡ drop count self.old }
+    {
+        self.at += count.min(self.symbols.len() - self.at);
+    }
+
     /// Whether this mark comes next.
     #[tactic(auto, unfolding(crate::specs::Reading::sees))]
     pub fn sees(&self, mark: Mark) -> bool
@@ -166,6 +185,19 @@ impl<'a> Cursor<'a> {
         Ok(bytes)
     }
 
+    /// The names that the next symbol lists, and goes behind it.
+    pub fn names(&mut self, alloc: Global) -> Result<Identifiers, Memory>
+        ensures names { IfOk result (λ n. n ≡ spec.names_at self.old) }
+        ensures after { OnOk result (self.new ≡ spec.behind self.old) }
+    {
+        let names = match self.symbols.get(self.at) {
+            Some(symbol) => copied(alloc, &symbol.names)?,
+            None => Identifiers::of(Vec::new(alloc)),
+        };
+        self.advance();
+        Ok(names)
+    }
+
     /// Goes behind a name, which has to come next.
     #[tactic(auto, unfolding(crate::specs::Reading::name))]
     pub fn name(&mut self, alloc: Global) -> Result<Identifier, Stop>
@@ -191,4 +223,14 @@ fn spelling<'a>(src: &'a [u8], symbol: &Symbol) -> &'a [u8]
         return behind;
     }
     &behind[..symbol.len]
+}
+
+fn copied(alloc: Global, names: &Identifiers) -> Result<Identifiers, Memory>
+    ensures { IfOk result (λ n. n ≡ names.now) }
+{
+    let mut list = Vec::new(alloc);
+    for name in names.as_slice() {
+        list.push(Identifier::of(Vec::from_slice(alloc, name.as_slice())?))?;
+    }
+    Ok(Identifiers::of(list))
 }

@@ -1,6 +1,7 @@
 //! What a sign means before an operand and between operands.
 ghost use Rattle.std.specs.Prelude.{◌≡◌};
 ghost use Rattle.c_parse.specs.Signs as spec;
+ghost use Rattle.c_parse.specs.Declarations as spec_declarations;
 
 use crate::symbols::{Class, Key, Mark};
 use c_tree::syntax::{Base, Binary, Change, Unary};
@@ -143,4 +144,11 @@ pub fn is_name(class: Class) -> bool
     ensures { result ≡ spec.is_name class }
 {
     matches!(class, Class::Name)
+}
+
+/// Whether it is `=`.
+pub fn is_equals(class: Class) -> bool
+    ensures { result ≡ spec_declarations.is_equals class }
+{
+    matches!(class, Class::Assign(None))
 }
