@@ -384,3 +384,25 @@ arrange s c z a g = record {
     back S C Z A G (inr (inl (inr x))) = inr (inr x)
     back S C Z A G (inr (inr (inl x))) = inl (inr x)
     back S C Z A G (inr (inr (inr x))) = inr (inl x)
+
+-- what stands behind a phrase that knows where it begins
+pub placed_then : {A B : Type 0} (k : Place → Phrase A) (l : A → Phrase B) → ((at : Place) (a : A) → (k at).spells [] a → ⊥) → Same (ph.◌>>=◌ (placed k) l) (placed (λ at. ph.◌>>=◌ (k at) l))
+placed_then {A} {B} k l fills = record { spelt = λ w b c. to w (λ a us. (l a).spells us b) c; spelt_back = λ w b c. back w (λ a us. (l a).spells us b) c; begun = begun; begun_back = begun_back }
+  where
+    same_place : (w u v : List Sym) (a : A) (at : Place) → w ≡ u ++ v → (k at).spells u a → at ≡ place_of w ⊎ at ≡ place_of u → (place_of w ≡ place_of u)
+    same_place w [] v a at e h q = absurd (fills at a h)
+    same_place w (c ∷ u) v a at e h q = ap place_of e
+    to : (w : List Sym) (Q : A → List Sym → Type 0) → Cut (λ us a. (k (place_of us)).spells us a) Q w → Cut (k (place_of w)).spells Q w
+    to w Q c = record { before = c.before; behind = c.behind; value = c.value; is = c.is; spelt = subst (λ at. (k at).spells c.before c.value) (sym (same_place w c.before c.behind c.value (place_of c.before) c.is c.spelt (inr refl))) c.spelt; follows = c.follows }
+    back : (w : List Sym) (Q : A → List Sym → Type 0) → Cut (k (place_of w)).spells Q w → Cut (λ us a. (k (place_of us)).spells us a) Q w
+    back w Q c = record { before = c.before; behind = c.behind; value = c.value; is = c.is; spelt = subst (λ at. (k at).spells c.before c.value) (same_place w c.before c.behind c.value (place_of w) c.is c.spelt (inl refl)) c.spelt; follows = c.follows }
+    begun : (w : List Sym) → (k (place_of w)).front w ⊎ Cut (λ us a. (k (place_of us)).spells us a) (λ a. (l a).front) w → (k (place_of w)).front w ⊎ Cut (k (place_of w)).spells (λ a. (l a).front) w
+    begun w (inl x) = inl x
+    begun w (inr c) = inr (to w (λ a. (l a).front) c)
+    begun_back : (w : List Sym) → (k (place_of w)).front w ⊎ Cut (k (place_of w)).spells (λ a. (l a).front) w → (k (place_of w)).front w ⊎ Cut (λ us a. (k (place_of us)).spells us a) (λ a. (l a).front) w
+    begun_back w (inl x) = inl x
+    begun_back w (inr c) = inr (back w (λ a. (l a).front) c)
+
+-- three choices in another order
+pub turn_round : {A : Type 0} (a b c : Phrase A) → Same (a or (b or c)) (b or (c or a))
+turn_round a b c = same_trans (or_swap a (b or c)) (or_group b c a)

@@ -7,11 +7,14 @@ pub mod Exact
 pub mod ExpressionsRead
 pub mod Heads
 pub mod ItemRows
+pub mod ItemsRead
 pub mod LastLines
+pub mod Laws
 pub mod Repeats
 pub mod Sets
 pub mod Shown
 pub mod Skips
+pub mod SourcesRead
 pub mod StatementsRead
 pub mod Tests
 pub mod Turns

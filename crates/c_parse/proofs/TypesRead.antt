@@ -93,14 +93,13 @@ comma_seen : {A : Type 0} (item : Reader A) (found : List A) (ts : List Sym) →
 unfolding expect
 comma_seen item found ts e = expected (sees mark.Comma ts) ts (item >>= (λ x. pure (found ++ x ∷ []))) (not_false (sees mark.Comma ts) e)
 
-pub separated_exact : {A : Type 0} {p : Phrase A} {r : Reader A} {s gp : List ℕ} → Exact p r s (λ _. gp) true → apart (37 ∷ []) gp ≡ true → Exact (gr.separated p) (rd.separated r) s (λ _. 37 ∷ gp) true
-unfolding rd.separated sees
-separated_exact {A} {p} {r} {s} {gp} e h = by_reader _ (widen s (λ _. 37 ∷ gp)
-    (seq_maybe e (λ first. repeat_exact (gr.one_more p) (one_more_of r) no_comma (37 ∷ []) gp
+pub commas_exact : {A : Type 0} {p : Phrase A} {r : Reader A} {s gp : List ℕ} → Exact p r s (λ _. gp) true → apart (37 ∷ []) gp ≡ true → (found : List A) → Exact (ph.repeat (gr.one_more p) found) (rd.repeat no_comma (rd.one_more r) found) (37 ∷ []) (λ _. 37 ∷ gp) false
+unfolding sees
+commas_exact {A} {p} {r} {s} {gp} e h found = by_reader _
+    (repeat_exact (gr.one_more p) (one_more_of r) no_comma (37 ∷ []) gp
       (λ found. token_then (mark_exact mark.Comma) (λ _. map_same (λ x. found ++ x ∷ []) e))
-      started h (λ _. 37 ∷ gp) (λ t. within_when gp (37 ∷ gp) (λ n k. later n k)) ends (first ∷ [])) h)
-    (within_self s) (λ _. all))
-    (λ ts. same ts)
+      started h (λ _. 37 ∷ gp) (λ t. within_when gp (37 ∷ gp) (λ n k. later n k)) ends found)
+    (λ ts. repeat_is no_comma (rd.one_more r) (one_more_of r) (λ found us k. comma_seen r found us k) (length ts) found ts)
   where
     started : (c : Sym) (ts : List Sym) → is_in (37 ∷ []) (code c.class) ≡ true → no_comma (c ∷ ts) ≡ false
     started c ts k = ap not (sym (in_mark mark.Comma c.class) ∙ k)
@@ -111,10 +110,15 @@ separated_exact {A} {p} {r} {s} {gp} e h = by_reader _ (widen s (λ _. 37 ∷ gp
     ends : (t : List A) (rest : List Sym) → Stops (37 ∷ gp) rest → no_comma rest ≡ true
     ends t [] k = refl
     ends t (c ∷ rest) k = ap not (sym (in_mark mark.Comma c.class) ∙ first_no (code c.class) k)
+
+pub separated_exact : {A : Type 0} {p : Phrase A} {r : Reader A} {s gp : List ℕ} → Exact p r s (λ _. gp) true → apart (37 ∷ []) gp ≡ true → Exact (gr.separated p) (rd.separated r) s (λ _. 37 ∷ gp) true
+unfolding rd.separated
+separated_exact {A} {p} {r} {s} {gp} e h = widen s (λ _. 37 ∷ gp) (seq_maybe e (λ first. commas_exact e h (first ∷ [])) h) (within_self s) (λ _. all)
+  where
+    later : (n : ℕ) → is_in gp n ≡ true → is_in (37 ∷ gp) n ≡ true
+    later n k = ap (λ b. nat_eq 37 n || b) k ∙ or_true (nat_eq 37 n)
     both : (n : ℕ) → (is_in (37 ∷ gp) n ≡ true) ⊎ (is_in gp n ≡ true) → is_in (37 ∷ gp) n ≡ true
     both n (inl k) = k
     both n (inr k) = later n k
     all : within ((37 ∷ gp) ++ gp) (37 ∷ gp) ≡ true
     all = within_when ((37 ∷ gp) ++ gp) (37 ∷ gp) (λ n k. both n (in_either (37 ∷ gp) gp n k))
-    same : (ts : List Sym) → and_then (r ts) (λ first. rd.repeat no_comma (rd.one_more r) (first ∷ [])) ≡ and_then (r ts) (λ first. rd.repeat no_comma (one_more_of r) (first ∷ []))
-    same ts = then_same (r ts) (λ first rest. repeat_is no_comma (rd.one_more r) (one_more_of r) (λ found us k. comma_seen r found us k) (length rest) (first ∷ []) rest)
