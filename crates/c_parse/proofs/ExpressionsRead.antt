@@ -1,5 +1,5 @@
 -- Binary, conditional and assignment expressions are read exactly, and so are expressions of every depth.
-use Rattle.std.proofs.Common.{◌≡◌, ℕ, zero, suc, ◌<◌, ◌≤◌, arith, Bool, true, false, if◌then◌else◌, ◌&&◌, ◌||◌, not, ◌⊎◌, inl, inr, ⊎_elim, List, [], ◌∷◌, ◌++◌, length, Option, Some, None, is_some, refl, sym, ap, ◌∙◌, subst}
+use Rattle.std.proofs.Common.{◌≡◌, ℕ, zero, suc, ◌<◌, ◌≤◌, arith, Bool, true, false, not, List, [], ◌∷◌, ◌++◌, length, Option, Some, None, refl, sym, ap, ◌∙◌}
 use Rattle.c_tree.specs.declared.syntax.Place.{Place}
 use Rattle.c_tree.specs.declared.syntax.Binary.{Binary}
 use Rattle.c_tree.specs.declared.syntax.Binary.TheVariants as binary
@@ -19,10 +19,10 @@ use Rattle.c_parse.specs.Reading as rd
 use Rattle.c_parse.specs.Expressions as ex
 use Rattle.c_parse.specs.Grammar.{one_if, one_as, mark_}
 use Rattle.c_parse.specs.Grammar as gr
-use Rattle.c_parse.proofs.Sets.{code, is_in, apart, within, bool_is, within_no}
+use Rattle.c_parse.proofs.Sets.{code, is_in, apart, within, within_no}
 use Rattle.c_parse.proofs.Tests.{in_mark, in_level, in_assigns, ASSIGNS, level_codes, tighter_codes}
 use Rattle.c_parse.proofs.Exact.{Exact, Stops, left, give_exact, nothing_exact, take_one, taken}
-use Rattle.c_parse.proofs.Choices.{Same, widen, by_reader, by_phrase, or_exact, placed_exact, same_refl, same_sym, same_trans, same_bind, same_or, same_placed, factor, regroup, then_give}
+use Rattle.c_parse.proofs.Choices.{Same, widen, by_reader, by_phrase, or_exact, placed_exact, same_refl, same_sym, same_trans, same_bind, same_or, factor, regroup, then_give}
 use Rattle.c_parse.proofs.Repeats.{repeat_exact}
 use Rattle.c_parse.proofs.Blocks.{token_then, seq, seq_maybe, maybe_both, map_same, one_as_exact, mark_exact, branch_exact, eaten, repeat_is}
 use Rattle.c_parse.proofs.Windows.{at_most_exact}
@@ -126,12 +126,12 @@ module _ (bp : Part → Phrase x.Expr) (br : Part → Reader x.Expr) (eb : Below
       let sides = tighter_facts level (omega arith) in
       widen (tighter_codes (suc level)) (λ _. tighter_codes (suc level) ++ STEPS)
       (maybe_both (climb_exact level (omega arith) at first) (λ left. by_reader _
-        (repeat_exact (step_ level at) (operation_reader level at) (ex.ends r_ level) (level_codes level) (tighter_codes level ++ STEPS)
-          (λ left. token_then (one_as_exact (binary_of level) (level_codes level) (λ c. in_level level c lt) facts.plain)
-            (λ sign. map_same (λ right. x.Binary' at sign left right) (placed_exact (gr.binary p_ level) (operand_reader level) EXPR (λ _. tighter_codes level ++ STEPS)
-              (λ at. by_phrase _ (widen EXPR (λ _. tighter_codes level ++ STEPS) (seq_maybe (eb part.Unary) (climb_exact level (omega arith) at) sides.parted) refl (λ _. sides.both)) (same_sym (binary_same level at))))))
-          (goes_when level lt) facts.parted (λ _. tighter_codes (suc level) ++ STEPS) (λ _. facts.more) (λ _. ends_when level lt) left)
-        (λ ts. repeat_is (ex.ends r_ level) (ex.operation r_ level (ex.climb r_ level) at) (operation_reader level at) (λ s ts _. operation_is level at s ts) (length ts) left ts)) facts.parted)
+      (repeat_exact (step_ level at) (operation_reader level at) (ex.ends r_ level) (level_codes level) (tighter_codes level ++ STEPS)
+      (λ left. token_then (one_as_exact (binary_of level) (level_codes level) (λ c. in_level level c lt) facts.plain)
+      (λ sign. map_same (λ right. x.Binary' at sign left right) (placed_exact (gr.binary p_ level) (operand_reader level) EXPR (λ _. tighter_codes level ++ STEPS)
+      (λ at. by_phrase _ (widen EXPR (λ _. tighter_codes level ++ STEPS) (seq_maybe (eb part.Unary) (climb_exact level (omega arith) at) sides.parted) refl (λ _. sides.both)) (same_sym (binary_same level at))))))
+      (goes_when level lt) facts.parted (λ _. tighter_codes (suc level) ++ STEPS) (λ _. facts.more) (λ _. ends_when level lt) left)
+      (λ ts. repeat_is (ex.ends r_ level) (ex.operation r_ level (ex.climb r_ level) at) (operation_reader level at) (λ s ts _. operation_is level at s ts) (length ts) left ts)) facts.parted)
       facts.starts (λ _. facts.both)
 
   -- ---- conditional expressions
@@ -140,10 +140,10 @@ module _ (bp : Part → Phrase x.Expr) (br : Part → Reader x.Expr) (eb : Below
   unfolding gr.choice ex.choice sees
   choice_exact at first = widen (tighter_codes 10 ++ 39 ∷ []) (λ _. after part.Cond)
       (maybe_both (climb_exact 10 (omega arith) at first) (λ test. by_reader _
-        (branch_exact (is_mark mark.Question) (39 ∷ []) (λ _. after part.Cond) (in_mark mark.Question) refl refl
-          (seq (eb part.Assign) (λ yes'. token_then (mark_exact mark.Colon) (λ _. map_same (λ no'. x.Choice at test yes' no') (eb part.Cond))) refl)
-          (give_exact test) refl (λ _. refl) (λ _. refl) (λ _ _ _. refl))
-        (λ ts. eaten (is_mark mark.Question (class_at ts)) ts _ _)) refl) refl (λ _. refl)
+      (branch_exact (is_mark mark.Question) (39 ∷ []) (λ _. after part.Cond) (in_mark mark.Question) refl refl
+      (seq (eb part.Assign) (λ yes'. token_then (mark_exact mark.Colon) (λ _. map_same (λ no'. x.Choice at test yes' no') (eb part.Cond))) refl)
+      (give_exact test) refl (λ _. refl) (λ _. refl) (λ _ _ _. refl))
+      (λ ts. eaten (is_mark mark.Question (class_at ts)) ts _ _)) refl) refl (λ _. refl)
 
   cond_same : (at : Place) → Same (gr.cond p_ at) (ph.◌>>=◌ (bp part.Unary) (λ first. ph.◌>>=◌ (from 10 at first) (λ test. gr.choice p_ at test or give test)))
   unfolding gr.cond

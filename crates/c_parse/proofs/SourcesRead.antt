@@ -1,16 +1,15 @@
 -- A source is read exactly: what is read is spelt, what is spelt is read, and reading fails at the symbol that makes the source no longer viable.
-use Rattle.std.proofs.Common.{◌≡◌, ℕ, zero, suc, ◌+◌, ◌≤◌, ◌<◌, arith, Bool, true, false, ◌⊎◌, inl, inr, ⊎_elim, List, [], ◌∷◌, ◌++◌, length, refl, sym, ap, ◌∙◌, subst, append_assoc, length-append}
+use Rattle.std.proofs.Common.{◌≡◌, ℕ, zero, suc, ◌≤◌, arith, true, false, List, [], ◌∷◌, ◌++◌, length, refl, sym, ap, ◌∙◌, subst, append_assoc, length-append}
 use Rattle.std.proofs.lemmas.List.{append-nil}
 use Rattle.c_tree.specs.Syntax as x
 use Rattle.c_parse.specs.Symbols.{Sym}
-use Rattle.c_parse.specs.Phrases as ph
-use Rattle.c_parse.specs.Reading.{Read, Got, Fails, Reader, and_then, pure, repeat_from, repeat}
+use Rattle.c_parse.specs.Reading.{Read, Got, Fails, Reader, repeat_from, repeat}
 use Rattle.c_parse.specs.Sources as so
 use Rattle.c_parse.specs.Sources.{is_over, last_line}
 use Rattle.c_parse.specs.SourceGrammar as sc
 use Rattle.c_parse.specs.Parsed.{Viable, NoneRefused, EndsAt}
-use Rattle.c_parse.proofs.Sets.{code, is_in, bool_is}
-use Rattle.c_parse.proofs.Exact.{Exact, Ends, Stops, left, then_got, then_fails, Overlap, within_first, over_first, overlap}
+use Rattle.c_parse.proofs.Sets.{code, is_in}
+use Rattle.c_parse.proofs.Exact.{Ends, left, then_got, Overlap, within_first, over_first, overlap}
 use Rattle.c_parse.proofs.Repeats as rp
 use Rattle.c_parse.proofs.ItemsRead.{ITEM, more_items_exact}
 
@@ -94,15 +93,17 @@ spelt_viable w t h = rp.steps_whole sc.one_more_item so.one_more_item is_over IT
 -- the symbol at which reading fails ends what is viable
 pub fails_ends : (ts : List Sym) (c : Sym) (x : List Sym) → items_read ts ≡ Fails (c ∷ x) → (before : List Sym) × EndsAt ts before c
 fails_ends ts c x e =
-    let u = fails_viable ts (c ∷ x) e in
-    (u.read, record {
-      behind = x;
-      is = u.is;
-      viable = λ front more q. viable_front front more (subst Viable q u.holds);
-      over = λ h. (let le = viable_left (u.read ++ c ∷ []) x h in
-        let same : (u.read ++ c ∷ []) ++ x ≡ ts = append_assoc u.read (c ∷ []) x ∙ sym u.is in
-        omega (arith, ap (λ l. left (items_read l)) same, ap left e));
-    })
+    let u = fails_viable ts (c ∷ x) e in (
+      u.read,
+      record {
+        behind = x;
+        is = u.is;
+        viable = λ front more q. viable_front front more (subst Viable q u.holds);
+        over = λ h. (let le = viable_left (u.read ++ c ∷ []) x h in
+            let same : (u.read ++ c ∷ []) ++ x ≡ ts = append_assoc u.read (c ∷ []) x ∙ sym u.is in
+            omega (arith, ap (λ l. left (items_read l)) same, ap left e));
+      },
+    )
 
 -- and what ends what is viable is where reading fails
 pub ends_fails : (ts before : List Sym) (c : Sym) (h : EndsAt ts before c) → items_read ts ≡ Fails (c ∷ h.behind)
@@ -110,12 +111,16 @@ ends_fails ts before c h = by (items_read ts) refl
   where
     whole : Viable before
     whole = h.viable before [] (sym (append-nil before))
+
     room : left (items_read ts) ≤ length (c ∷ h.behind)
     room = subst (λ l. left (items_read l) ≤ length (c ∷ h.behind)) (sym h.is) (viable_left before (c ∷ h.behind) whole)
+
     split : ts ≡ (before ++ c ∷ []) ++ h.behind
     split = h.is ∙ sym (append_assoc before (c ∷ []) h.behind)
+
     no_more : (m v : List Sym) → Viable ((before ++ c ∷ []) ++ m) → ⊥
     no_more m v k = h.over (viable_front (before ++ c ∷ []) m k)
+
     same_cut : (read x : List Sym) → ts ≡ read ++ x → Viable read → length x ≤ length (c ∷ h.behind) → Overlap (before ++ c ∷ []) h.behind read x → x ≡ c ∷ h.behind
     same_cut read x e k le (within_first m q) = absurd (no_more m x (subst Viable q k))
     same_cut read x e k le (over_first [] q z) = absurd (h.over (subst Viable (sym (append-nil read) ∙ sym q) k))
@@ -123,6 +128,7 @@ ends_fails ts before c h = by (items_read ts) refl
       where
         at_last : (read : List Sym) (d : Sym) (m x : List Sym) → before ++ c ∷ [] ≡ read ++ d ∷ m → x ≡ (d ∷ m) ++ h.behind → length x ≤ length (c ∷ h.behind) → x ≡ c ∷ h.behind
         at_last read d m x q z le = last_of read before c d m x h.behind q z le
+
     by : (o : Read (List x.Item)) → items_read ts ≡ o → items_read ts ≡ Fails (c ∷ h.behind)
     by (Got t rest) e = (let k = read_spelt ts t rest e in absurd (h.over (viable_front (before ++ c ∷ []) h.behind (subst Viable split (spelt_viable ts t k.1)))))
     by (Fails x) e = (let u = fails_viable ts x e in e ∙ ap Fails (same_cut u.read x u.is u.holds (omega (arith, ap left e, room)) (overlap (before ++ c ∷ []) h.behind u.read x (sym split ∙ u.is))))

@@ -1,5 +1,5 @@
 -- Blocks and statements are read exactly.
-use Rattle.std.proofs.Common.{◌≡◌, ℕ, zero, suc, Bool, true, false, if◌then◌else◌, ◌&&◌, ◌||◌, not, ◌⊎◌, inl, inr, ⊎_elim, List, [], ◌∷◌, ◌++◌, length, Option, Some, None, refl, sym, ap, ◌∙◌, subst}
+use Rattle.std.proofs.Common.{◌≡◌, ℕ, zero, suc, Bool, true, false, if◌then◌else◌, inl, List, [], ◌∷◌, ◌++◌, Option, Some, None, refl, sym, ap, ◌∙◌, subst}
 use Rattle.c_tree.specs.declared.syntax.Place.{Place}
 use Rattle.c_tree.specs.declared.syntax.Binary.TheVariants as binary
 use Rattle.c_tree.specs.Syntax as x
@@ -19,14 +19,13 @@ use Rattle.c_parse.specs.Expressions as ex
 use Rattle.c_parse.specs.Declarations as dc
 use Rattle.c_parse.specs.Statements as st
 use Rattle.c_parse.specs.Statements.{items_of, block_of}
-use Rattle.c_parse.specs.Grammar.{one_if, mark_, key_, when}
-use Rattle.c_parse.specs.Grammar as gr
+use Rattle.c_parse.specs.Grammar.{one_if, mark_}
 use Rattle.c_parse.specs.StatementGrammar.{is_open, single_as, single_by, is_barrier}
 use Rattle.c_parse.specs.StatementGrammar as sg
-use Rattle.c_parse.proofs.Sets.{code, mark_code, is_in, apart, within, bool_is, apart_no}
+use Rattle.c_parse.proofs.Sets.{code, mark_code, is_in, apart, within, apart_no}
 use Rattle.c_parse.proofs.Tests.{in_mark, in_key, BASES}
-use Rattle.c_parse.proofs.Exact.{Exact, Stops, bind_exact, give_exact, nothing_exact, one_exact, take_one, taken, then_got}
-use Rattle.c_parse.proofs.Choices.{widen, by_reader, by_phrase, or_exact, or_swap, placed_exact}
+use Rattle.c_parse.proofs.Exact.{Exact, bind_exact, give_exact, nothing_exact, one_exact, take_one, taken, then_got}
+use Rattle.c_parse.proofs.Choices.{widen, by_reader, or_exact, placed_exact}
 use Rattle.c_parse.proofs.Repeats.{until_exact}
 use Rattle.c_parse.proofs.Blocks.{token_then, seq, map_same, map_exact, one_if_exact, mark_exact, key_exact, branch_exact, eaten, when_exact, pick, pick_over, regroup_read, then_same, within_self}
 use Rattle.c_parse.proofs.UnaryRead.{EXPR, after}
@@ -297,35 +296,35 @@ module _ (sp : Phrase x.Stmt) (sr : Reader x.Stmt) (es : Exact sp sr STMT else_a
         pick (34 ∷ 36 ∷ 4 ∷ 5 ∷ 15 ∷ 17 ∷ 18 ∷ 19 ∷ 20 ∷ 21 ∷ 22 ∷ []) (pick (34 ∷ 36 ∷ 4 ∷ 5 ∷ 15 ∷ 17 ∷ 18 ∷ 19 ∷ 20 ∷ 21 ∷ []) (pick (34 ∷ 36 ∷ 4 ∷ 5 ∷ 15 ∷ 17 ∷ 18 ∷ 19 ∷ 20 ∷ [])
         (pick (34 ∷ 36 ∷ 4 ∷ 5 ∷ 15 ∷ 17 ∷ 18 ∷ 19 ∷ []) (pick (34 ∷ 36 ∷ 4 ∷ 5 ∷ 15 ∷ 17 ∷ 18 ∷ []) (pick (34 ∷ 36 ∷ 4 ∷ 5 ∷ 15 ∷ 17 ∷ []) (pick (34 ∷ 36 ∷ 4 ∷ 5 ∷ 15 ∷ [])
         (pick (34 ∷ 36 ∷ 4 ∷ 5 ∷ []) (pick (34 ∷ 36 ∷ 4 ∷ []) (pick (34 ∷ 36 ∷ []) (pick (34 ∷ [])
-          (st.block r_ d)
-          (expect mark.Semicolon >>= (λ _. pure (x.Empty at))))
-          (single_reader at))
-          (barrier_reader at))
-          (if deep then (expect_key key.If >>= (λ _. st.if_from r_ at)) else refuse))
-          (if deep then (expect_key key.While >>= (λ _. st.while_from r_ at)) else refuse))
-          (if deep then (expect_key key.Do >>= (λ _. st.do_from r_ at)) else refuse))
-          (if deep then (expect_key key.For >>= (λ _. st.for_from r_ at)) else refuse))
-          (expect_key key.Return >>= (λ _. st.return_from r_ d at)))
-          (expect_key key.Break >>= (λ _. st.ended r_ d (x.Break at))))
-          (expect_key key.Continue >>= (λ _. st.ended r_ d (x.Continue at))))
-          (st.eval r_ d at)
+        (st.block r_ d)
+        (expect mark.Semicolon >>= (λ _. pure (x.Empty at))))
+        (single_reader at))
+        (barrier_reader at))
+        (if deep then (expect_key key.If >>= (λ _. st.if_from r_ at)) else refuse))
+        (if deep then (expect_key key.While >>= (λ _. st.while_from r_ at)) else refuse))
+        (if deep then (expect_key key.Do >>= (λ _. st.do_from r_ at)) else refuse))
+        (if deep then (expect_key key.For >>= (λ _. st.for_from r_ at)) else refuse))
+        (expect_key key.Return >>= (λ _. st.return_from r_ d at)))
+        (expect_key key.Break >>= (λ _. st.ended r_ d (x.Break at))))
+        (expect_key key.Continue >>= (λ _. st.ended r_ d (x.Continue at))))
+        (st.eval r_ d at)
 
     picked_exact : (at : Place) → Exact (sg.statement_at p_ d at) (picked at) STMT else_after true
     unfolding sg.statement_at st.block st.ended st.eval
     picked_exact at =
         pick_over else_after (pick_over else_after (pick_over else_after (pick_over else_after (pick_over else_after (pick_over else_after (pick_over else_after (pick_over else_after (pick_over else_after (pick_over else_after (pick_over else_after
-          (map_same block_of body_exact)
-          (token_then (mark_exact mark.Semicolon) (λ _. give_exact (x.Empty at))) refl (λ _. refl) (λ _. refl))
-          (token_then (one_exact single_as (4 ∷ []) (λ s a e. in_singles s.class s.names a e) refl) (λ listed. map_same (λ b. x.Single at listed.0 listed.1 (block_of b)) body_exact)) refl (λ a. within_self (else_after a)) (λ _. refl))
-          (map_same (λ listed. x.Barrier at listed) (one_if_exact is_barrier (λ s. s.names) (5 ∷ []) in_barriers refl)) refl (λ a. within_self (else_after a)) (λ _. refl))
-          (if_exact at) refl (λ a. within_self (else_after a)) (λ a. within_self (else_after a)))
-          (while_exact at) refl (λ a. within_self (else_after a)) (λ a. within_self (else_after a)))
-          (do_exact at) refl (λ a. within_self (else_after a)) (λ _. refl))
-          (for_exact at) refl (λ a. within_self (else_after a)) (λ a. within_self (else_after a)))
-          (token_then (key_exact key.Return) (λ _. by_reader _ (map_same (λ value. x.Return at value) (to_semicolon d)) (return_is at))) refl (λ a. within_self (else_after a)) (λ _. refl))
-          (token_then (key_exact key.Break) (λ _. token_then (mark_exact mark.Semicolon) (λ _. give_exact (x.Break at)))) refl (λ a. within_self (else_after a)) (λ _. refl))
-          (token_then (key_exact key.Continue) (λ _. token_then (mark_exact mark.Semicolon) (λ _. give_exact (x.Continue at)))) refl (λ a. within_self (else_after a)) (λ _. refl))
-          (seq (expression_exact d part.Assign) (λ value. token_then (mark_exact mark.Semicolon) (λ _. give_exact (x.Eval at value))) refl) refl (λ a. within_self (else_after a)) (λ _. refl)
+        (map_same block_of body_exact)
+        (token_then (mark_exact mark.Semicolon) (λ _. give_exact (x.Empty at))) refl (λ _. refl) (λ _. refl))
+        (token_then (one_exact single_as (4 ∷ []) (λ s a e. in_singles s.class s.names a e) refl) (λ listed. map_same (λ b. x.Single at listed.0 listed.1 (block_of b)) body_exact)) refl (λ a. within_self (else_after a)) (λ _. refl))
+        (map_same (λ listed. x.Barrier at listed) (one_if_exact is_barrier (λ s. s.names) (5 ∷ []) in_barriers refl)) refl (λ a. within_self (else_after a)) (λ _. refl))
+        (if_exact at) refl (λ a. within_self (else_after a)) (λ a. within_self (else_after a)))
+        (while_exact at) refl (λ a. within_self (else_after a)) (λ a. within_self (else_after a)))
+        (do_exact at) refl (λ a. within_self (else_after a)) (λ _. refl))
+        (for_exact at) refl (λ a. within_self (else_after a)) (λ a. within_self (else_after a)))
+        (token_then (key_exact key.Return) (λ _. by_reader _ (map_same (λ value. x.Return at value) (to_semicolon d)) (return_is at))) refl (λ a. within_self (else_after a)) (λ _. refl))
+        (token_then (key_exact key.Break) (λ _. token_then (mark_exact mark.Semicolon) (λ _. give_exact (x.Break at)))) refl (λ a. within_self (else_after a)) (λ _. refl))
+        (token_then (key_exact key.Continue) (λ _. token_then (mark_exact mark.Semicolon) (λ _. give_exact (x.Continue at)))) refl (λ a. within_self (else_after a)) (λ _. refl))
+        (seq (expression_exact d part.Assign) (λ value. token_then (mark_exact mark.Semicolon) (λ _. give_exact (x.Eval at value))) refl) refl (λ a. within_self (else_after a)) (λ _. refl)
 
     picked_is_at : (at a : Place) (c : Class) (b : List ℕ) (n : List (List ℕ)) (ts : List Sym) → (deep' : Bool) → deep ≡ deep' → st.statement_by r_ d at c (record { at = a; class = c; bytes = b; names = n } ∷ ts) ≡ picked at (record { at = a; class = c; bytes = b; names = n } ∷ ts)
     unfolding st.single st.barrier expect expect_key sees sees_key same_mark same_key

@@ -1,15 +1,11 @@
 -- Types and lists with commas are read exactly.
-use Rattle.std.proofs.Common.{◌≡◌, ℕ, zero, suc, nat_eq, ◌⊎◌, inl, inr, Bool, true, false, if◌then◌else◌, ◌&&◌, ◌||◌, not, List, [], ◌∷◌, ◌++◌, length, Option, Some, None, refl, sym, ap, ◌∙◌, subst}
-use Rattle.std.proofs.lemmas.List.{append-nil}
+use Rattle.std.proofs.Common.{◌≡◌, ℕ, nat_eq, ◌⊎◌, inl, inr, Bool, true, false, if◌then◌else◌, ◌&&◌, ◌||◌, not, List, [], ◌∷◌, ◌++◌, length, Option, Some, None, refl, sym, ap, ◌∙◌}
 use Rattle.c_tree.specs.declared.syntax.Base.{Base}
 use Rattle.c_tree.specs.declared.syntax.Base.TheVariants as base
-use Rattle.c_tree.specs.declared.syntax.TypeName.{TypeName}
-use Rattle.c_parse.specs.declared.symbols.Class.{Class}
-use Rattle.c_parse.specs.declared.symbols.Class.TheVariants as class
 use Rattle.c_parse.specs.declared.symbols.Key.TheVariants as key
 use Rattle.c_parse.specs.declared.symbols.Mark.TheVariants as mark
 use Rattle.c_parse.specs.Symbols.{Sym}
-use Rattle.c_parse.specs.Signs.{base_of, is_star, is_number, is_mark}
+use Rattle.c_parse.specs.Signs.{base_of, is_star, is_number}
 use Rattle.c_parse.specs.Phrases.{Phrase, give, one, ◌or◌, repeat}
 use Rattle.c_parse.specs.Phrases as ph
 use Rattle.c_parse.specs.Reading.{Read, Got, Fails, Reader, and_then, ◌>>=◌, pure, refuse, class_at, behind, sees, behind_if, eat, eat_key, expect, repeat_from, no_comma}
@@ -17,12 +13,12 @@ use Rattle.c_parse.specs.Reading as rd
 use Rattle.c_parse.specs.Expressions as ex
 use Rattle.c_parse.specs.Grammar.{one_if, one_as, mark_, key_, name_, flag, flag_if, when, long_int}
 use Rattle.c_parse.specs.Grammar as gr
-use Rattle.c_parse.proofs.Sets.{code, mark_code, is_in, apart, within, bool_is, in_either, left_no}
+use Rattle.c_parse.proofs.Sets.{code, is_in, apart, within, in_either, left_no}
 use Rattle.c_parse.proofs.Tests.{in_mark, in_bases, BASES, in_stars, STARS}
-use Rattle.c_parse.proofs.Exact.{Exact, Stops, left, give_exact, take_one, taken}
-use Rattle.c_parse.proofs.Choices.{widen, by_reader, by_phrase}
+use Rattle.c_parse.proofs.Exact.{Exact, Stops, give_exact, take_one, taken}
+use Rattle.c_parse.proofs.Choices.{widen, by_reader}
 use Rattle.c_parse.proofs.Repeats.{repeat_exact}
-use Rattle.c_parse.proofs.Blocks.{token_then, seq, seq_maybe, map_same, one_as_exact, flag_exact, flag_key_exact, mark_exact, within_self, within_when, repeat_is, passing, or_true, then_same}
+use Rattle.c_parse.proofs.Blocks.{token_then, seq_maybe, map_same, one_as_exact, flag_exact, flag_key_exact, mark_exact, within_self, within_when, repeat_is, or_true}
 
 -- ---- bases
 
@@ -68,6 +64,7 @@ star_exact b = by (is_number b)
   where
     stays : (ts : List Sym) → Got false (behind_if false ts) ≡ Got false ts
     stays ts = ap (Got false) (not_behind ts)
+
     by : (n : Bool) → Exact (flag_if n (one_if is_star (λ _. tt))) (λ ts. Got (n && is_star (class_at ts)) (behind_if (n && is_star (class_at ts)) ts)) STARS (λ _. STARS) false
     by true = flag_exact is_star STARS in_stars refl refl
     by false = widen STARS (λ _. STARS) (by_reader _ (give_exact false) stays) refl (λ _. refl)
@@ -97,16 +94,19 @@ pub commas_exact : {A : Type 0} {p : Phrase A} {r : Reader A} {s gp : List ℕ} 
 unfolding sees
 commas_exact {A} {p} {r} {s} {gp} e h found = by_reader _
     (repeat_exact (gr.one_more p) (one_more_of r) no_comma (37 ∷ []) gp
-      (λ found. token_then (mark_exact mark.Comma) (λ _. map_same (λ x. found ++ x ∷ []) e))
-      started h (λ _. 37 ∷ gp) (λ t. within_when gp (37 ∷ gp) (λ n k. later n k)) ends found)
+    (λ found. token_then (mark_exact mark.Comma) (λ _. map_same (λ x. found ++ x ∷ []) e))
+    started h (λ _. 37 ∷ gp) (λ t. within_when gp (37 ∷ gp) (λ n k. later n k)) ends found)
     (λ ts. repeat_is no_comma (rd.one_more r) (one_more_of r) (λ found us k. comma_seen r found us k) (length ts) found ts)
   where
     started : (c : Sym) (ts : List Sym) → is_in (37 ∷ []) (code c.class) ≡ true → no_comma (c ∷ ts) ≡ false
     started c ts k = ap not (sym (in_mark mark.Comma c.class) ∙ k)
+
     later : (n : ℕ) → is_in gp n ≡ true → is_in (37 ∷ gp) n ≡ true
     later n k = ap (λ b. nat_eq 37 n || b) k ∙ or_true (nat_eq 37 n)
+
     first_no : (n : ℕ) → is_in (37 ∷ gp) n ≡ false → is_in (37 ∷ []) n ≡ false
     first_no n k = left_no (nat_eq 37 n) (is_in gp n) k
+
     ends : (t : List A) (rest : List Sym) → Stops (37 ∷ gp) rest → no_comma rest ≡ true
     ends t [] k = refl
     ends t (c ∷ rest) k = ap not (sym (in_mark mark.Comma c.class) ∙ first_no (code c.class) k)
@@ -117,8 +117,10 @@ separated_exact {A} {p} {r} {s} {gp} e h = widen s (λ _. 37 ∷ gp) (seq_maybe 
   where
     later : (n : ℕ) → is_in gp n ≡ true → is_in (37 ∷ gp) n ≡ true
     later n k = ap (λ b. nat_eq 37 n || b) k ∙ or_true (nat_eq 37 n)
+
     both : (n : ℕ) → (is_in (37 ∷ gp) n ≡ true) ⊎ (is_in gp n ≡ true) → is_in (37 ∷ gp) n ≡ true
     both n (inl k) = k
     both n (inr k) = later n k
+
     all : within ((37 ∷ gp) ++ gp) (37 ∷ gp) ≡ true
     all = within_when ((37 ∷ gp) ++ gp) (37 ∷ gp) (λ n k. both n (in_either (37 ∷ gp) gp n k))
