@@ -1,0 +1,17 @@
+pub mod Ahead
+pub mod DeclarationGrammar
+pub mod Declarations
+pub mod Expressions
+pub mod Grammar
+pub mod Insides
+pub mod Nests
+pub mod Parsed
+pub mod Phrases
+pub mod Reading
+pub mod Signs
+pub mod SourceGrammar
+pub mod Sources
+pub mod Spellings
+pub mod StatementGrammar
+pub mod Statements
+pub mod Symbols
