@@ -1,4 +1,5 @@
 pub mod Numbers
+pub mod Arithmetic
 pub mod Asking
 pub mod Meaning
 pub mod Syntax

@@ -4,6 +4,7 @@
 //! has had so far, which call the task asks next and at which line.
 #![tactic(auto)]
 
+pub mod arithmetic;
 pub mod formats;
 pub mod mpi;
 mod names;
