@@ -1,2 +1,3 @@
 pub mod SyntaxRows
 pub mod ProgramRows
+pub mod MpiNames

@@ -8,6 +8,7 @@ pub mod formats;
 pub mod mpi;
 mod names;
 pub mod program;
+mod reading;
 pub mod syntax;
 mod trees;
 mod variables;
