@@ -1,0 +1,8 @@
+//! The rules of typing: the typed program of a tree, or the first rule that the tree breaks.
+#![tactic(auto)]
+
+mod kinds;
+mod refusals;
+mod shapes;
+
+pub use refusals::TypeRefusal;
