@@ -1,1 +1,3 @@
 pub mod Env
+pub mod EnvCode
+pub mod Keys

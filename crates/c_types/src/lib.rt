@@ -2,6 +2,7 @@
 #![tactic(auto)]
 
 mod kinds;
+mod names;
 mod refusals;
 mod shapes;
 
