@@ -1,1 +1,3 @@
 pub mod Env
+pub mod KnownNames
+pub mod Kinds
