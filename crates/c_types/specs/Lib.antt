@@ -1,3 +1,4 @@
 pub mod Env
 pub mod KnownNames
 pub mod Kinds
+pub mod Rules
