@@ -56,7 +56,7 @@ pub record Env : Type 0 where
   pub constructs : List Construct
   -- how many file-scope variables the whole unit has: a static local's number comes behind theirs
   pub file_variables : ℕ
-  -- in a function: its slots so far, the slots whose address is taken anywhere in it, and what it answers
+  -- in a function: its slots so far, by slot whether its address is taken anywhere in it, and what it answers
   pub slots : ℕ
-  pub taken : List ℕ
+  pub taken : List Bool
   pub returns : Kind

@@ -3,6 +3,18 @@
 use crate::kinds::{Decl, Kind, Left};
 use c_tree::syntax::{Base, Binary};
 
+/// What the rules read of an initializer.
+#[derive(Clone, Copy, Debug)]
+pub enum Initial {
+    Nothing,
+    /// Of a static variable, and whether it may stand there.
+    Constant(bool),
+    /// Of another variable: an expression's type.
+    Value(Option<Kind>),
+    /// Of another variable.
+    List,
+}
+
 /// What the rules read of a declared variable.
 #[derive(Clone, Copy, Debug)]
 pub struct Declared {
@@ -19,18 +31,6 @@ pub struct Declared {
     pub initial: Initial,
 }
 
-/// What the rules read of an initializer.
-#[derive(Clone, Copy, Debug)]
-pub enum Initial {
-    Nothing,
-    /// Of a static variable, and whether it may stand there.
-    Constant(bool),
-    /// Of another variable: an expression's type.
-    Value(Option<Kind>),
-    /// Of another variable.
-    List,
-}
-
 /// What the rules read of a parameter.
 #[derive(Clone, Copy, Debug)]
 pub struct Parameter {
@@ -43,19 +43,23 @@ pub struct Parameter {
     pub is_main: bool,
 }
 
-/// What the rules read of a node: of its operands their types, where they have one.
+/// What the rules read of what stands outside of functions, and of declarations.
 #[derive(Clone, Copy, Debug)]
-pub enum Shape {
+pub enum ItemShape {
     /// The whole source, and whether it has a proper main.
     Unit(bool),
     /// A directive that gives variables a level, and whether it may stand there.
     Scope(bool),
-    Declared(Declared),
+    Variable(Declared),
     Parameter(Parameter),
     /// A prototype or definition: whether the name is declared otherwise, whether it is a known name,
     /// and what the function answers.
     Function(bool, bool, Kind),
+}
 
+/// What the rules read of a statement.
+#[derive(Clone, Copy, Debug)]
+pub enum StatementShape {
     /// The condition of a statement.
     Tested(Option<Kind>),
     /// What the function answers, and the type of the value, where there is one.
@@ -67,33 +71,42 @@ pub enum Shape {
     Single(bool, bool, usize),
     /// A barrier: whether its names are variables with a level, and how many stand before it.
     Barrier(bool, usize),
+}
 
-    /// A number.
+/// What the rules read of a call.
+#[derive(Clone, Copy, Debug)]
+pub enum CallShape {
+    /// Of what is no function.
+    Nothing,
+    /// Of the program's own function: whether it is defined, whether the arguments agree with its
+    /// parameters, and what it answers.
+    Own(bool, bool, Kind),
+    /// `printf`, and whether its arguments are those of its format.
+    Printf(bool),
+    /// `malloc`: the element of the pointer that it is for, where it may stand there, and whether it has
+    /// one number.
+    Malloc(Option<Base>, bool),
+    /// `free`, and whether it has one pointer.
+    Free(bool),
+    /// MPI_Init: whether it has two arguments, and whether they are those that it may have.
+    Init(bool, bool),
+    /// Another MPI function: whether its arguments are those of its row, and whether the buffers agree
+    /// with the datatypes.
+    Mpi(bool, bool),
+}
+
+/// What the rules read of an expression with at most one operand, or of an element.
+#[derive(Clone, Copy, Debug)]
+pub enum OperandShape {
+    /// A number, and whether it is a long.
     Number(bool),
     Text,
     /// A name as a value.
     Used(Option<Decl>),
-    /// A call of what is no function.
-    CalledNothing,
-    /// A call of the program's own function: whether it is defined, whether the arguments agree with its
-    /// parameters, and what it answers.
-    Called(bool, bool, Kind),
-    /// `printf`, and whether its arguments are those of its format.
-    Printed(bool),
-    /// `malloc`: the element of the pointer that it is for, where it may stand there, and whether it has
-    /// one number.
-    Allocated(Option<Base>, bool),
-    /// `free`, and whether it has one pointer.
-    Freed(bool),
-    /// MPI_Init: whether it has two arguments, and whether they are those that it may have.
-    Started(bool, bool),
-    /// Another MPI function: whether its arguments are those of its row, and whether the buffers agree
-    /// with the datatypes.
-    Mpi(bool, bool),
     /// `[`
     Element(Option<Kind>, Option<Kind>),
     /// `.`, and whether the field is MPI_SOURCE or MPI_TAG.
-    Part(bool, Option<Kind>),
+    Field(bool, Option<Kind>),
     /// `++` or `--`
     Stepped(Left),
     /// `-`, `+` or `~`
@@ -109,6 +122,11 @@ pub enum Shape {
     /// A cast to a pointer, and whether it stands over a malloc that is for a pointer.
     Cast(Base, bool),
     Sized(Base),
+}
+
+/// What the rules read of an expression with two operands or more.
+#[derive(Clone, Copy, Debug)]
+pub enum OperatorShape {
     /// `*`, `/`, `%`, `&`, `|` or `^`
     Arithmetic(Option<Kind>, Option<Kind>),
     /// `<<` or `>>`
@@ -127,4 +145,14 @@ pub enum Shape {
     Assigned(Left, Option<Kind>),
     /// A computing assignment: its sign, the left side, and the types of both sides.
     Computed(Binary, Left, Option<Kind>, Option<Kind>),
+}
+
+/// What the rules read of a node: of its operands their types, where they have one.
+#[derive(Clone, Copy, Debug)]
+pub enum Shape {
+    Item(ItemShape),
+    Statement(StatementShape),
+    Call(CallShape),
+    Operand(OperandShape),
+    Operator(OperatorShape),
 }
