@@ -1,6 +1,6 @@
 -- A code of what is known at a place, by which a type of the code may have it as its model.
-use Rattle.std.specs.Prelude.{ℕ, List, refl}
-use Rattle.std.specs.Coded.{Coded, coded_ℕ, coded_list, coded×, code_by}
+use Rattle.std.specs.Prelude.{ℕ, Bool, List, refl}
+use Rattle.std.specs.Coded.{Coded, coded_ℕ, coded_bool, coded_list, coded×, code_by}
 use Rattle.std.specs.FinMap as map
 use Rattle.mpc_base.specs.declared.owners.StaticVar.{StaticVar}
 use Rattle.mpc_base.specs.contracts.owners.StaticVar as variable
@@ -17,13 +17,13 @@ abbrev pub File : Type 0
 File = (List Scope × List Sig) × (List StaticVar × List StaticVar)
 
 abbrev pub Rest : Type 0
-Rest = (List Construct × ℕ) × ((ℕ × List ℕ) × Kind)
+Rest = (List Construct × ℕ) × ((ℕ × List Bool) × Kind)
 
 abbrev pub coded_file : Coded File
 coded_file = coded× (coded× (coded_list (map.code (coded_list coded_ℕ) decl.the_row.coded)) (coded_list sig.the_row.coded)) (coded× (coded_list variable.the_row.coded) (coded_list variable.the_row.coded))
 
 abbrev pub coded_rest : Coded Rest
-coded_rest = coded× (coded× (coded_list construct.the_row.coded) coded_ℕ) (coded× (coded× coded_ℕ (coded_list coded_ℕ)) kind.the_row.coded)
+coded_rest = coded× (coded× (coded_list construct.the_row.coded) coded_ℕ) (coded× (coded× coded_ℕ (coded_list coded_bool)) kind.the_row.coded)
 
 abbrev pub env_code : Coded Env
 env_code = code_by (File × Rest) (coded× coded_file coded_rest)

@@ -1,6 +1,7 @@
 //! The rules of typing: the typed program of a tree, or the first rule that the tree breaks.
 #![tactic(auto)]
 
+mod agreement;
 mod kinds;
 mod names;
 mod refusals;

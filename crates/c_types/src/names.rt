@@ -67,7 +67,7 @@ pub struct Names {
     constructs: Vec<Construct>,
     file_variables: u32,
     slots: u32,
-    taken: Vec<u32>,
+    taken: Vec<bool>,
     returns: Kind,
 }
 
