@@ -5,6 +5,7 @@ mod agreement;
 mod kinds;
 mod names;
 mod refusals;
+mod rules;
 mod shapes;
 
 pub use refusals::TypeRefusal;
