@@ -5,3 +5,5 @@ pub mod Rules
 pub mod Arguments
 pub mod Formats
 pub mod Arithmetic
+pub mod Constants
+pub mod Nodes
