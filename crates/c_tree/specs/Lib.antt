@@ -1,4 +1,5 @@
 pub mod Numbers
+pub mod Arithmetic
 pub mod Asking
 pub mod Meaning
 pub mod Syntax
@@ -6,3 +7,4 @@ pub mod SyntaxOf
 pub mod Programs
 pub mod ProgramOf
 pub mod MpiTable
+pub mod MpiScripts

@@ -5,7 +5,7 @@ use Rattle.mpc_base.specs.declared.values.Word.{Word}
 use Rattle.mpc_base.specs.declared.values.Word.TheVariants.{Int, Ptr}
 use Rattle.mpc_base.specs.declared.values.Obj.TheVariants.{Glob}
 use Rattle.mpc_base.specs.declared.calls.Call.TheVariants.{Load, Store, Print, Finish}
-use Rattle.mpc_base.specs.declared.calls.Answer.{Answer}
+use Rattle.mpc_base.specs.declared.answers.Answer.{Answer}
 use Rattle.c_tree.specs.declared.trees.Expr.{Expr, Number, Global, Assign', Printf'}
 use Rattle.c_tree.specs.declared.trees.Stmt.{Stmt}
 use Rattle.c_tree.specs.declared.trees.Stmt.TheVariants.{Eval, Return}
@@ -78,4 +78,4 @@ finish_main main (Returned line value) s = finish (int_of value) line s
 
 -- what a task that runs the program asks next, behind these answers
 abbrev pub next : Program → List Answer → Next
-next program answers = run program.main.body.items (finish_main program.main) (record { answers = answers })
+next program answers = run program.main.body.items (finish_main program.main) (record { slots = []; turns = 0; answers = answers })

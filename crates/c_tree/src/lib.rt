@@ -4,11 +4,13 @@
 //! has had so far, which call the task asks next and at which line.
 #![tactic(auto)]
 
+pub mod arithmetic;
 pub mod formats;
 pub mod mpi;
 mod names;
 pub mod program;
 mod reading;
+pub mod scripts;
 pub mod syntax;
 mod trees;
 mod variables;

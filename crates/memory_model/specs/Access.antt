@@ -4,10 +4,10 @@ use Rattle.mpc_base.specs.declared.values.Word.{Word}
 use Rattle.mpc_base.specs.declared.values.Word.TheVariants.{Undef, Int, Null, Ptr, Comm, Req}
 use Rattle.mpc_base.specs.declared.values.Obj.{Obj}
 use Rattle.mpc_base.specs.declared.owners.Owner.{Owner}
-use Rattle.mpc_base.specs.declared.calls.Answer.{Answer}
-use Rattle.mpc_base.specs.declared.calls.Answer.TheVariants.{Done, Gives}
-use Rattle.mpc_base.specs.declared.calls.Fault.{Fault}
-use Rattle.mpc_base.specs.declared.calls.Fault.TheVariants.{Uninit, NullAccess, Bounds, Dangling}
+use Rattle.mpc_base.specs.declared.answers.Answer.{Answer}
+use Rattle.mpc_base.specs.declared.answers.Answer.TheVariants.{Done, Gives}
+use Rattle.mpc_base.specs.declared.faults.Fault.{Fault}
+use Rattle.mpc_base.specs.declared.faults.Fault.TheVariants.{Uninit, NullAccess, Bounds, Dangling}
 use Rattle.memory_model.specs.Memory.{Memory, words_of, with_words}
 
 -- A range of places of an object that has these words, or the fault of naming it.

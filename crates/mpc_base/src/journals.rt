@@ -1,4 +1,5 @@
-use crate::calls::{Fault, Out};
+use crate::answers::Out;
+use crate::faults::Fault;
 use crate::lists::Entries;
 
 /// One event of a run: which task asked which call at which source line, and what became of it.

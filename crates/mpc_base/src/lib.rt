@@ -2,10 +2,13 @@
 //! and the traits through which a run meets the outside.
 #![tactic(auto)]
 
+mod answers;
 mod byte_sink;
 mod calls;
+mod collectives;
 mod fail_list;
 mod failures;
+mod faults;
 mod file_store;
 mod histories;
 mod jobs;
@@ -21,9 +24,12 @@ mod spawners;
 mod thread_spawner;
 mod values;
 
+pub use answers::{Answer, Out, Status, Way};
 pub use byte_sink::Sink;
-pub use calls::{Answer, Call, Fault, Out};
+pub use calls::Call;
+pub use collectives::{Coll, CollKind};
 pub use failures::{Failed, Memory};
+pub use faults::Fault;
 pub use file_store::{Files, ReadAnswer, WriteAnswer};
 pub use histories::Traced;
 pub use jobs::{Job, Started};

@@ -5,7 +5,7 @@ use Rattle.std.specs.FinMap as finite
 use Rattle.mpc_base.specs.declared.values.Word.{Word}
 use Rattle.mpc_base.specs.declared.values.Word.TheVariants.{Int}
 use Rattle.mpc_base.specs.declared.owners.Owner.TheVariants.{Task}
-use Rattle.mpc_base.specs.declared.calls.Answer.{Answer}
+use Rattle.mpc_base.specs.declared.answers.Answer.{Answer}
 use Rattle.memory_model.specs.Memory.{Memory}
 use Rattle.c_tree.specs.declared.trees.Program.{Program}
 use Rattle.run_model.specs.declared.records.Setup.{Setup}

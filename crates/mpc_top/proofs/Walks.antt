@@ -6,8 +6,8 @@ use Rattle.std.proofs.lemmas.Int.{int_wrap_fits}
 use Rattle.std.proofs.lemmas.Fmt.{length_signed_le}
 use Rattle.mpc_base.specs.declared.values.Word.TheVariants.{Int}
 use Rattle.mpc_base.specs.declared.calls.Call.TheVariants.{Load, Store, Print, Finish}
-use Rattle.mpc_base.specs.declared.calls.Answer.{Answer}
-use Rattle.mpc_base.specs.declared.calls.Answer.TheVariants.{Done, Gives}
+use Rattle.mpc_base.specs.declared.answers.Answer.{Answer}
+use Rattle.mpc_base.specs.declared.answers.Answer.TheVariants.{Done, Gives}
 use Rattle.c_tree.specs.declared.trees.Expr.{Number, Global, Assign', Printf'}
 use Rattle.c_tree.specs.declared.trees.Stmt.{Stmt}
 use Rattle.c_tree.specs.declared.trees.Stmt.TheVariants.{Eval, Return}
@@ -23,12 +23,12 @@ use Rattle.mpc_top.specs.Plain.{AssignsAt, PrintsNext, ReturnsNext}
 use Rattle.mpc_top.proofs.OneTaskSteps.{ints_set}
 
 -- what is asked when no answer is left
-asks_now : (setup : Setup) (answers : List Answer) (rest : List Stmt) → GoesOn setup answers rest → next setup.program answers ≡ run rest (finish_main setup.program.main) (record { answers = [] })
+asks_now : (setup : Setup) (answers : List Answer) (rest : List Stmt) → GoesOn setup answers rest → next setup.program answers ≡ run rest (finish_main setup.program.main) (record { slots = []; turns = 0; answers = [] })
 asks_now setup answers rest goes = ap (next setup.program) (sym (append-nil answers)) ∙ goes []
 
 -- with one answer more
 one_more : (setup : Setup) (answers after : List Answer) (answer : Answer) (rest : List Stmt) → GoesOn setup answers rest → after ≡ answers ++ answer ∷ [] → (more : List Answer)
-    → next setup.program (after ++ more) ≡ run rest (finish_main setup.program.main) (record { answers = answer ∷ more })
+    → next setup.program (after ++ more) ≡ run rest (finish_main setup.program.main) (record { slots = []; turns = 0; answers = answer ∷ more })
 one_more setup answers after answer rest goes is more =
     ap (λ a. next setup.program (a ++ more)) is ∙ ap (next setup.program) (append_assoc answers (answer ∷ []) more) ∙ goes (answer ∷ more)
 

@@ -4,9 +4,9 @@ use Rattle.std.specs.FinMap as map
 use Rattle.mpc_base.specs.declared.values.Word.{Word}
 use Rattle.mpc_base.specs.declared.values.Obj.TheVariants.{Glob}
 use Rattle.mpc_base.specs.declared.owners.Owner.TheVariants.{Task}
-use Rattle.mpc_base.specs.declared.calls.Answer.{Answer}
-use Rattle.mpc_base.specs.declared.calls.Out.{Out}
-use Rattle.mpc_base.specs.declared.calls.Out.TheVariants.{Did, Broke}
+use Rattle.mpc_base.specs.declared.answers.Answer.{Answer}
+use Rattle.mpc_base.specs.declared.answers.Out.{Out}
+use Rattle.mpc_base.specs.declared.answers.Out.TheVariants.{Did, Broke}
 use Rattle.mpc_base.specs.declared.journals.Entry.{Entry}
 use Rattle.memory_model.specs.Memory.{Memory, with_words}
 use Rattle.run_model.specs.declared.records.Setup.{Setup}

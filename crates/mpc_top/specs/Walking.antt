@@ -3,7 +3,7 @@ use Rattle.std.specs.Prelude.{◌≡◌, ◌+◌, ◌≤◌, List, [], ◌∷◌
 use Rattle.std.specs.Int.{w32}
 use Rattle.mpc_base.specs.declared.values.Word.{Word}
 use Rattle.mpc_base.specs.declared.values.Word.TheVariants.{Undef, Int, Null, Ptr, Comm, Req}
-use Rattle.mpc_base.specs.declared.calls.Answer.{Answer}
+use Rattle.mpc_base.specs.declared.answers.Answer.{Answer}
 use Rattle.c_tree.specs.declared.trees.Stmt.{Stmt}
 use Rattle.c_tree.specs.Meaning.{next, run, finish_main}
 use Rattle.run_model.specs.declared.records.Setup.{Setup}
@@ -26,7 +26,7 @@ AreInts (word ∷ words) = IsInt word × AreInts words
 
 -- behind the answers so far, the program goes on with these statements
 abbrev pub GoesOn : Setup → List Answer → List Stmt → Type 0
-GoesOn setup answers rest = (more : List Answer) → next setup.program (answers ++ more) ≡ run rest (finish_main setup.program.main) (record { answers = more })
+GoesOn setup answers rest = (more : List Answer) → next setup.program (answers ++ more) ≡ run rest (finish_main setup.program.main) (record { slots = []; turns = 0; answers = more })
 
 -- The state is that of a run in which these statements of main are left: main has not ended, each variable is an
 -- int, and there is room for all that the statements can print.

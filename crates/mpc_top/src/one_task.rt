@@ -17,7 +17,7 @@ pub struct OneTask {
 }
 
 impl OneTask {
-    ghost use Rattle.mpc_base.specs.declared.calls.Answer.TheVariants.{Done, Gives};
+    ghost use Rattle.mpc_base.specs.declared.answers.Answer.TheVariants.{Done, Gives};
     ghost use Rattle.mpc_base.specs.declared.calls.Call.TheVariants.{Load, Store, Print, Finish};
     ghost use Rattle.c_tree.specs.Asking.{Asks};
     ghost use Rattle.c_tree.specs.Meaning.{next, place_of};

@@ -4,12 +4,12 @@ use Rattle.std.specs.List.{list_all}
 use Rattle.mpc_base.specs.declared.values.Word.TheVariants.{Int}
 use Rattle.mpc_base.specs.declared.calls.Call.{Call}
 use Rattle.mpc_base.specs.declared.calls.Call.TheVariants.{Load, Store, Print, Finish}
-use Rattle.mpc_base.specs.declared.calls.Answer.{Answer}
-use Rattle.mpc_base.specs.declared.calls.Answer.TheVariants.{Gives}
-use Rattle.mpc_base.specs.declared.calls.Fault.{Fault}
-use Rattle.mpc_base.specs.declared.calls.Fault.TheVariants.{OutputFull}
-use Rattle.mpc_base.specs.declared.calls.Out.{Out}
-use Rattle.mpc_base.specs.declared.calls.Out.TheVariants.{Did, Broke}
+use Rattle.mpc_base.specs.declared.answers.Answer.{Answer}
+use Rattle.mpc_base.specs.declared.answers.Answer.TheVariants.{Gives}
+use Rattle.mpc_base.specs.declared.faults.Fault.{Fault}
+use Rattle.mpc_base.specs.declared.faults.Fault.TheVariants.{OutputFull}
+use Rattle.mpc_base.specs.declared.answers.Out.{Out}
+use Rattle.mpc_base.specs.declared.answers.Out.TheVariants.{Did, Broke}
 use Rattle.mpc_base.specs.declared.journals.Entry.{Entry}
 use Rattle.mpc_base.specs.CallTable.{call_number}
 use Rattle.c_tree.specs.Asking.{Next, Asks, Over, Misfit}

@@ -6,7 +6,7 @@ use Rattle.mpc_base.specs.declared.values.Obj.TheVariants.{Glob}
 use Rattle.mpc_base.specs.declared.owners.Owner.{Owner}
 use Rattle.mpc_base.specs.declared.owners.Owner.TheVariants.{Task}
 use Rattle.mpc_base.specs.declared.owners.StaticVar.{StaticVar}
-use Rattle.mpc_base.specs.declared.calls.Answer.{Answer}
+use Rattle.mpc_base.specs.declared.answers.Answer.{Answer}
 use Rattle.memory_model.specs.Memory.{Memory, with_words}
 use Rattle.run_model.specs.declared.records.Setup.{Setup}
 use Rattle.run_model.specs.declared.tasks.TaskState.{TaskState}

@@ -3,7 +3,7 @@ use Rattle.std.specs.Int.{w32, w64}
 use Rattle.std.proofs.Math.Facts.{sfits_widen}
 use Rattle.std.proofs.lemmas.Int.{to_z-of_z}
 use Rattle.mpc_base.specs.declared.calls.Call.TheVariants.{Finish}
-use Rattle.mpc_base.specs.declared.calls.Answer.TheVariants.{Gives}
+use Rattle.mpc_base.specs.declared.answers.Answer.TheVariants.{Gives}
 use Rattle.mpc_base.specs.declared.values.Word.TheVariants.{Int}
 use Rattle.mpc_top.proofs.OneTaskSteps.{moved}
 use Rattle.mpc_top.proofs.one_task.OneTask.finish.Goals as goal

@@ -3,7 +3,7 @@ use Rattle.std.specs.Int.{w32, w64}
 use Rattle.std.proofs.lemmas.Int.{to_z-of_z}
 use Rattle.std.proofs.Math.Facts.{sfits_widen}
 use Rattle.mpc_base.specs.declared.calls.Call.TheVariants.{Load}
-use Rattle.mpc_base.specs.declared.calls.Answer.TheVariants.{Gives}
+use Rattle.mpc_base.specs.declared.answers.Answer.TheVariants.{Gives}
 use Rattle.mpc_base.specs.declared.values.Word.TheVariants.{Int}
 use Rattle.c_tree.specs.Meaning.{place_of}
 use Rattle.mpc_top.specs.OneTask.{task_seen, answers_in}

@@ -2,7 +2,7 @@ use Rattle.std.proofs.Common.{refl, ap, ◌∙◌, pos, length, arith}
 use Rattle.std.specs.Int.{w64}
 use Rattle.std.proofs.lemmas.Int.{to_z_pos}
 use Rattle.mpc_base.specs.declared.calls.Call.TheVariants.{Print}
-use Rattle.mpc_base.specs.declared.calls.Answer.TheVariants.{Gives}
+use Rattle.mpc_base.specs.declared.answers.Answer.TheVariants.{Gives}
 use Rattle.mpc_base.specs.declared.values.Word.TheVariants.{Int}
 use Rattle.mpc_top.specs.OneTask.{task_seen, answers_in, memory_of}
 use Rattle.mpc_top.proofs.OneTaskSteps.{moved, answers_in-append, print_does}

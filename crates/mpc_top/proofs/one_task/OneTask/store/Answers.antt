@@ -1,6 +1,6 @@
 use Rattle.std.proofs.Common.{refl, ap, ◌∙◌}
 use Rattle.mpc_base.specs.declared.calls.Call.TheVariants.{Store}
-use Rattle.mpc_base.specs.declared.calls.Answer.TheVariants.{Done}
+use Rattle.mpc_base.specs.declared.answers.Answer.TheVariants.{Done}
 use Rattle.mpc_base.specs.declared.values.Word.TheVariants.{Int, Undef}
 use Rattle.std.specs.Int.{w64}
 use Rattle.std.proofs.lemmas.Int.{to_z-of_z}
