@@ -7,3 +7,4 @@ pub mod SyntaxOf
 pub mod Programs
 pub mod ProgramOf
 pub mod MpiTable
+pub mod MpiScripts

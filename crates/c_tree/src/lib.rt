@@ -10,6 +10,7 @@ pub mod mpi;
 mod names;
 pub mod program;
 mod reading;
+pub mod scripts;
 pub mod syntax;
 mod trees;
 mod variables;

@@ -4,3 +4,8 @@ pub mod Keys
 pub mod KnownNames
 pub mod Kinds
 pub mod Rules
+pub mod Arguments
+pub mod Formats
+pub mod Arithmetic
+pub mod Constants
+pub mod Nodes

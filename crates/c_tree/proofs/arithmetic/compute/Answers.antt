@@ -28,7 +28,7 @@ longs operation x y fx fy =
     ∙ ap (computed Long operation x) (int_wrap_fits w64 y fy)
 
 same : (operation : Operation) (x y : ℤ) → FitsSigned w64 x → FitsSigned w64 y
-  → computed Long operation (to_z w64 (of_z w64 x)) (to_z w64 (of_z w64 y)) ≡ computed Long operation x y
+    → computed Long operation (to_z w64 (of_z w64 x)) (to_z w64 (of_z w64 y)) ≡ computed Long operation x y
 same operation x y fx fy =
     ap (λ a. computed Long operation a (to_z w64 (of_z w64 y))) (to_z-of_z w64 x fx) ∙ ap (computed Long operation x) (to_z-of_z w64 y fy)
 

@@ -5,7 +5,7 @@ use Rattle.std.specs.Prelude.{pos, unsigned_abs}
 use Rattle.c_tree.proofs.arithmetic.wrap_int.Goals as goal
 
 wraps : (z r c : ℤ) → FitsSigned w64 z → FitsSigned w64 r → FitsSigned w32 c → r ≡ int_rem_euclid (to_z w64 (of_z w64 z)) (pos 4294967296)
-  → c ≡ to_z w32 (unsigned_abs (to_z w64 (of_z w64 r))) → to_z w32 (of_z w32 c) ≡ int_wrap w32 z
+    → c ≡ to_z w32 (unsigned_abs (to_z w64 (of_z w64 r))) → to_z w32 (of_z w32 c) ≡ int_wrap w32 z
 unfolding int_wrap
 wraps z r c fz fr fc is_r is_c =
     to_z-of_z w32 c fc ∙ is_c
