@@ -3,6 +3,7 @@
 
 mod agreement;
 mod kinds;
+mod known_names;
 mod names;
 mod refusals;
 mod rules;
