@@ -1,2 +1,4 @@
 pub mod Scopes
 pub mod Known
+pub mod Pairs
+pub mod Buffers

@@ -2,6 +2,7 @@
 #![tactic(auto)]
 
 mod agreement;
+mod arguments;
 mod kinds;
 mod known_names;
 mod names;
