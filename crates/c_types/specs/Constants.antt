@@ -1,7 +1,8 @@
 -- Constant expressions (C99, section 6.6): their types and values. What is not evaluated has to be constant too, but
 -- may have a fault.
-use Rattle.std.specs.Prelude.{ℕ, ℤ, pos, Bool, true, false, cond, not, ◌&&◌, nat_eq, int_le, ◌-ℤ◌, List, [], ◌∷◌, ◌++◌, length, replicate, nat_le, Option, None, Some, option_map, option_and_then, ◌-◌}
-use Rattle.std.specs.Int.{int_bit_not, w64}
+use Rattle.std.specs.Prelude.{ℕ, ℤ, pos, Bool, true, false, cond, not, ◌&&◌, nat_eq, List, [], ◌∷◌, ◌++◌, length, replicate, nat_le, Option, None, Some, option_map, option_and_then, ◌-◌, Result, Ok, Err}
+use Rattle.std.specs.Ordering.{int_eq}
+use Rattle.mpc_base.specs.declared.faults.Fault.{Fault}
 use Rattle.mpc_base.specs.declared.values.Word.{Word}
 use Rattle.mpc_base.specs.declared.values.Word.TheVariants as word
 use Rattle.c_tree.specs.declared.program.Width.{Width}
@@ -16,6 +17,8 @@ use Rattle.c_tree.specs.declared.syntax.Unary.{Unary}
 use Rattle.c_tree.specs.declared.syntax.Unary.TheVariants as unary
 use Rattle.c_tree.specs.declared.syntax.Binary.{Binary}
 use Rattle.c_tree.specs.declared.syntax.Binary.TheVariants as sign
+use Rattle.c_tree.specs.Arithmetic.{operated, negated, complemented, compared}
+use Rattle.c_tree.specs.Numbers.{wrapped}
 use Rattle.c_tree.specs.Syntax as x
 use Rattle.c_types.specs.declared.kinds.Kind.{Kind}
 use Rattle.c_types.specs.declared.kinds.Kind.TheVariants.{Plain, Pointer}
@@ -26,7 +29,6 @@ use Rattle.c_types.specs.declared.shapes.OperandShape.TheVariants as operand
 use Rattle.c_types.specs.declared.shapes.OperatorShape.TheVariants as operator
 use Rattle.c_types.specs.declared.shapes.Shape.{Shape}
 use Rattle.c_types.specs.declared.shapes.Shape.TheVariants.{Operand, Operator}
-use Rattle.c_types.specs.Arithmetic.{operate, compare, fitted, wrapped, truth, is_zero}
 use Rattle.c_types.specs.Kinds.{int, agree, wider, width_of, has, is_number}
 use Rattle.c_types.specs.KnownNames.{known}
 use Rattle.c_types.specs.Rules.{kind, number_kind}
@@ -92,20 +94,27 @@ number_in other = pos 0
 
 -- a number other than 0, or a pointer that is not NULL
 abbrev pub is_true : Word → Bool
-is_true (word.Int z) = not (is_zero z)
+is_true (word.Int z) = not (int_eq z (pos 0))
 is_true word.Null = false
 is_true other = true
 
 -- two constants that are no pointers into memory are the same
 abbrev pub same_word : Word → Word → Bool
-same_word (word.Int a) (word.Int b) = compare comparison.Equal a b
+same_word (word.Int a) (word.Int b) = int_eq a b
 same_word word.Null word.Null = true
 same_word (word.Comm a) (word.Comm b) = nat_eq a b
 same_word (word.Req a) (word.Req b) = nat_eq a b
 same_word a b = false
 
-abbrev pub int_word : ℤ → Word
-int_word z = word.Int z
+-- 1 or 0
+abbrev pub truth_word : Bool → Word
+truth_word true = word.Int (pos 1)
+truth_word false = word.Int (pos 0)
+
+-- the number, where there is no fault
+abbrev pub word_of : Result ℤ Fault → Option Word
+word_of (Ok z) = Some (word.Int z)
+word_of (Err fault) = None
 
 -- two values, where neither has a fault
 abbrev pub on_both : {A B C : Type 0} → (A → B → Option C) → Option A → Option B → Option C
@@ -113,33 +122,30 @@ on_both f (Some a) (Some b) = f a b
 on_both f a b = None
 
 -- a comparison of two numbers, or of two others, of which only their sameness is asked
-abbrev pub compared : Comparison → Word → Word → Bool
-compared comparison.Equal a b = same_word a b
-compared comparison.NotEqual a b = not (same_word a b)
-compared other a b = compare other (number_in a) (number_in b)
+abbrev pub compared_words : Comparison → Word → Word → Bool
+compared_words comparison.Equal a b = same_word a b
+compared_words comparison.NotEqual a b = not (same_word a b)
+compared_words other a b = compared other (number_in a) (number_in b)
 
-abbrev pub operated : Width → Operation → Word → Word → Option Word
-operated width operation a b = option_map int_word (operate width operation (number_in a) (number_in b))
-
-abbrev pub compared_words : Comparison → Word → Word → Option Word
-compared_words comparison a b = Some (word.Int (truth (compared comparison a b)))
+abbrev pub operated_words : Width → Operation → Word → Word → Option Word
+operated_words width operation a b = word_of (operated width operation (number_in a) (number_in b))
 
 -- 0 or 1 for a value
 abbrev pub truth_of : Option Word → Option Word
-truth_of value = option_map (λ w. word.Int (truth (is_true w))) value
+truth_of value = option_map (λ w. truth_word (is_true w)) value
 
 -- the value of && and ||, whose right side counts only where the left one does not decide
 abbrev pub conjoined : Option Word → Option Word → Option Word
 conjoined None b = None
-conjoined (Some a) b = cond (is_true a) (truth_of b) (Some (word.Int (pos 0)))
+conjoined (Some a) b = cond (is_true a) (truth_of b) (Some (truth_word false))
 
 abbrev pub disjoined : Option Word → Option Word → Option Word
 disjoined None b = None
-disjoined (Some a) b = cond (is_true a) (Some (word.Int (pos 1))) (truth_of b)
+disjoined (Some a) b = cond (is_true a) (Some (truth_word true)) (truth_of b)
 
 abbrev pub binary_value : Meaning → Constant → Constant → Option Word
-binary_value (Operates operation) a b = on_both (operated (operation_width operation (Some a.kind) (Some b.kind)) operation) a.value b.value
-binary_value (Compares comparison) a b = on_both (compared_words comparison) a.value b.value
+binary_value (Operates operation) a b = on_both (operated_words (operation_width operation (Some a.kind) (Some b.kind)) operation) a.value b.value
+binary_value (Compares comparison) a b = on_both (λ v w. Some (truth_word (compared_words comparison v w))) a.value b.value
 binary_value Conjunction a b = conjoined a.value b.value
 binary_value Disjunction a b = disjoined a.value b.value
 
@@ -152,15 +158,12 @@ abbrev pub binary_constant : Binary → Option Constant → Option Constant → 
 binary_constant by (Some a) (Some b) = constant_if (kind (binary_shape by (Some a.kind) (Some b.kind))) (binary_value (meaning_of by) a b)
 binary_constant by a b = None
 
--- the value of -, which has a fault where it is outside the type
-abbrev pub negated_word : Width → Word → Option Word
-negated_word width a = option_map int_word (fitted width (pos 0 -ℤ number_in a))
-
+-- the value of a sign before a constant
 abbrev pub unary_value : Unary → Kind → Word → Option Word
-unary_value unary.Minus k a = negated_word (width_of (Some k)) a
+unary_value unary.Minus k a = word_of (negated (width_of (Some k)) (number_in a))
 unary_value unary.Plus k a = Some a
-unary_value unary.Not k a = Some (word.Int (truth (not (is_true a))))
-unary_value unary.Complement k a = Some (word.Int (int_bit_not w64 (number_in a)))
+unary_value unary.Not k a = Some (truth_word (not (is_true a)))
+unary_value unary.Complement k a = Some (word.Int (complemented (number_in a)))
 unary_value unary.Indirection k a = None
 unary_value unary.Address k a = None
 

@@ -6,6 +6,7 @@ pub mod Kinds
 pub mod Rules
 pub mod Arguments
 pub mod Formats
-pub mod Arithmetic
 pub mod Constants
 pub mod Nodes
+pub mod Calls
+pub mod Expressions
