@@ -2,3 +2,4 @@ pub mod Scopes
 pub mod Known
 pub mod Pairs
 pub mod Buffers
+pub mod DraftSteps

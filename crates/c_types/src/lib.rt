@@ -3,6 +3,7 @@
 
 mod agreement;
 mod arguments;
+mod formats;
 mod kinds;
 mod known_names;
 mod names;
