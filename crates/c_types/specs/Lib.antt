@@ -8,3 +8,4 @@ pub mod Constants
 pub mod Nodes
 pub mod Calls
 pub mod Expressions
+pub mod Typed
