@@ -9,3 +9,5 @@ pub mod Nodes
 pub mod Calls
 pub mod Expressions
 pub mod Typed
+pub mod Declarations
+pub mod Statements
