@@ -74,8 +74,13 @@ static_words env base d = static_words_in env (object_words base d)
 abbrev pub first_words : Env → Base → Declarator → Option (List Word)
 first_words env base d = initial_words (element_kind base d) (is_array d) (unwrap_or (static_words env base d) 0) d.initializer
 
+-- so many words, these first; where the limits are not kept, none
+abbrev pub static_of : Option ℕ → Option (List Word) → StaticVar
+static_of None first = record { len = 0; level = None; first = [] }
+static_of (Some words) first = record { len = words; level = None; first = unwrap_or first [] }
+
 abbrev pub static_variable : Env → Base → Declarator → StaticVar
-static_variable env base d = record { len = unwrap_or (static_words env base d) 0; level = None; first = unwrap_or (first_words env base d) [] }
+static_variable env base d = static_of (static_words env base d) (first_words env base d)
 
 -- the next file-scope variable
 abbrev pub with_global : Base → Env → Declarator → Env

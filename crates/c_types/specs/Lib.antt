@@ -11,3 +11,6 @@ pub mod Expressions
 pub mod Typed
 pub mod Declarations
 pub mod Statements
+pub mod Addresses
+pub mod Units
+pub mod Typing
