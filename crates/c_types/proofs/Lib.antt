@@ -1,0 +1,3 @@
+mod Least
+pub mod Order
+pub mod Laws
