@@ -3,3 +3,6 @@ pub mod Known
 pub mod Pairs
 pub mod Buffers
 pub mod DraftSteps
+mod Least
+pub mod Order
+pub mod Laws

@@ -45,18 +45,28 @@ leave (scope ∷ outer) = outer
 
 -- what is known at a place of a source
 pub record Env : Type 0 where
+  -- the functions that the unit defines, each with the number of its first definition
+  pub definitions : Scope
+  -- how many file-scope variables the unit has: the numbers of static locals come behind theirs
+  pub file_variables : ℕ
   -- the scopes round the place, the innermost first
   pub scopes : List Scope
-  -- the functions declared so far
+  -- the functions declared so far, and whether one of them is defined so far
   pub functions : List Sig
-  -- the file-scope variables so far, and the static locals so far
+  pub has_definition : Bool
+  -- the file-scope variables so far, the static locals so far, and how many words these have together
   pub globals : List StaticVar
   pub statics : List StaticVar
+  pub words : ℕ
   -- the statements so far that share variables
   pub constructs : List Construct
-  -- how many file-scope variables the whole unit has: a static local's number comes behind theirs
-  pub file_variables : ℕ
   -- in a function: its slots so far, by slot whether its address is taken anywhere in it, and what it answers
   pub slots : ℕ
   pub taken : List Bool
   pub returns : Kind
+
+abbrev pub enter_scope : Env → Env
+enter_scope env = record env { scopes = enter env.scopes }
+
+abbrev pub leave_scope : Env → Env
+leave_scope env = record env { scopes = leave env.scopes }

@@ -11,3 +11,9 @@ pub mod Nodes
 pub mod Calls
 pub mod Expressions
 pub mod Drafts
+pub mod Typed
+pub mod Declarations
+pub mod Statements
+pub mod Addresses
+pub mod Units
+pub mod Typing
