@@ -156,7 +156,8 @@ abbrev mutual
 abbrev pub with_parameter : Frame → Param → Frame
 with_parameter frame parameter = record {
   scopes = put parameter.name (decl.Variable (record { kind = Rattle.c_types.specs.Kinds.int; is_array = false; home = home.Local frame.slots })) frame.scopes;
-  slots = frame.slots + 1 }
+  slots = frame.slots + 1;
+}
 
 abbrev pub with_parameters : Frame → List Param → Frame
 with_parameters frame [] = frame

@@ -25,6 +25,8 @@ use Rattle.c_types.specs.declared.kinds.Kind.TheVariants.{Plain, Pointer}
 use Rattle.c_types.specs.declared.kinds.Known.{Known}
 use Rattle.c_types.specs.declared.kinds.Known.TheVariants as a_known
 use Rattle.c_types.specs.declared.kinds.Constant.{Constant}
+use Rattle.c_types.specs.declared.meanings.Meaning.{Meaning}
+use Rattle.c_types.specs.declared.meanings.Meaning.TheVariants.{Operates, Compares, Conjunction, Disjunction}
 use Rattle.c_types.specs.declared.shapes.OperandShape.TheVariants as operand
 use Rattle.c_types.specs.declared.shapes.OperatorShape.TheVariants as operator
 use Rattle.c_types.specs.declared.shapes.Shape.{Shape}
@@ -55,12 +57,6 @@ binary_shape sign.And a b = Operator (operator.Joined a b)
 binary_shape sign.Or a b = Operator (operator.Joined a b)
 
 -- what a sign between two operands does
-pub data Meaning : Type 0 where
-  Operates : (operation : Operation) → Meaning
-  Compares : (comparison : Comparison) → Meaning
-  Conjunction : Meaning
-  Disjunction : Meaning
-
 abbrev pub meaning_of : Binary → Meaning
 meaning_of sign.Multiply = Operates operation.Multiply
 meaning_of sign.Divide = Operates operation.Divide

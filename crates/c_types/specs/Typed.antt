@@ -47,7 +47,9 @@ use Rattle.c_types.specs.declared.kinds.Given.{Given}
 use Rattle.c_types.specs.declared.kinds.Sig.{Sig}
 use Rattle.c_types.specs.Arguments.{first_datatype, last_datatype, operation_of, is_ignored}
 use Rattle.c_types.specs.Calls.{meaning, side_of, cast_want, special}
-use Rattle.c_types.specs.Constants.{Meaning, Operates, Compares, Conjunction, Disjunction, meaning_of, operation_width, size_of}
+use Rattle.c_types.specs.declared.meanings.Meaning.{Meaning}
+use Rattle.c_types.specs.declared.meanings.Meaning.TheVariants.{Operates, Compares, Conjunction, Disjunction}
+use Rattle.c_types.specs.Constants.{meaning_of, operation_width, size_of}
 use Rattle.c_types.specs.Env.{Env}
 use Rattle.c_types.specs.Expressions.{kind_of, givens, right_want}
 use Rattle.c_types.specs.Formats.{format_parts, pieces_of, Part}
@@ -246,7 +248,8 @@ mpi_call function givens = record {
   kind = datatype_or (first_datatype givens);
   received = last_datatype (datatype_or (first_datatype givens)) givens;
   op = operation_of givens;
-  ignored = is_ignored givens }
+  ignored = is_ignored givens;
+}
 
 -- which arguments a call evaluates, and what they become
 pub data Passing : Type 0 where

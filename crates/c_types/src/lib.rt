@@ -3,9 +3,11 @@
 
 mod agreement;
 mod arguments;
+mod constants;
 mod formats;
 mod kinds;
 mod known_names;
+mod meanings;
 mod names;
 mod refusals;
 mod rules;

@@ -447,7 +447,7 @@ fn pointer_to(element: Option<Base>) -> Option<Kind>
     }
 }
 
-fn number_kind(is_long: bool) -> Kind
+pub fn number_kind(is_long: bool) -> Kind
     ensures { result ≡ rules.number_kind is_long }
 {
     if is_long {
