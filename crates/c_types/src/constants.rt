@@ -1,7 +1,8 @@
 //! Constant expressions (C99, section 6.6): their types, and their values where they have no fault.
-ghost use Rattle.std.specs.Prelude.{◌≡◌, IfOk, OnOk, map};
+ghost use Rattle.std.specs.Prelude.{◌≡◌, IfOk, Some, map};
 ghost use Rattle.c_tree.specs.SyntaxOf.{expr_of, initializer_of};
 ghost use Rattle.c_types.specs.Constants as constants;
+ghost use Rattle.c_types.specs.Keys.{Holds};
 
 use crate::agreement::{agree, is_number, width_of};
 use crate::kinds::{Constant, Kind, Known};
@@ -378,5 +379,67 @@ fn zero_word(kind: Kind) -> Word
         Kind::Plain(Base::Request) => Word::Req(0),
         Kind::Pointer(_) => Word::Null,
         _ => Word::Int(0),
+    }
+}
+
+// So many words: these, and zeros behind them, where there are not too many.
+fn filled(words: Vec<Word>, len: u32, zero: Word) -> Result<Option<Vec<Word>>, Memory>
+    ensures { IfOk result (λ r. Holds r (constants.filled len zero (Some words.items))) }
+{
+    let mut words = words;
+    let len = len as usize;
+    if words.len() > len {
+        return Ok(None);
+    }
+    words.resize(len, zero)?;
+    Ok(Some(words))
+}
+
+// The words that a list of values starts with, where each may stand there.
+fn start_words(alloc: Global, due: Kind, values: &[Expr]) -> Result<Option<Vec<Word>>, Memory>
+    ensures { IfOk result (λ r. Holds r (constants.start_words due (map expr_of values.now))) }
+{
+    let mut words = Vec::new(alloc);
+    for value in values {
+        match start_word(due, constant_of(value)) {
+            Some(word) => words.push(word)?,
+            None => return Ok(None),
+        }
+    }
+    Ok(Some(words))
+}
+
+/// The words that a static variable starts with, where its initializer may stand there: by its element's
+/// type, whether it is an array, and how many words it has.
+pub fn initial_words(
+    alloc: Global,
+    element: Kind,
+    is_array: bool,
+    len: u32,
+    initializer: &Initializer,
+) -> Result<Option<Vec<Word>>, Memory>
+    ensures { IfOk result (λ r. Holds r
+        (constants.initial_words element is_array len (initializer_of initializer.now))) }
+{
+    match initializer {
+        Initializer::Nothing => filled(Vec::new(alloc), len, zero_word(element)),
+        Initializer::Value(value) => {
+            if is_array {
+                return Ok(None);
+            }
+            match start_word(element, constant_of(value)) {
+                Some(word) => Ok(Some(vec![in alloc; word]?)),
+                None => Ok(None),
+            }
+        }
+        Initializer::List(values) => {
+            if !is_array {
+                return Ok(None);
+            }
+            match start_words(alloc, element, values)? {
+                Some(words) => filled(words, len, zero_word(element)),
+                None => Ok(None),
+            }
+        }
     }
 }
