@@ -1,8 +1,14 @@
 //! The rules of typing: the typed program of a tree, or the first rule that the tree breaks.
 #![tactic(auto)]
 
+mod agreement;
+mod arguments;
 mod kinds;
+mod known_names;
+mod names;
 mod refusals;
+mod rules;
+mod scopes;
 mod shapes;
 
 pub use refusals::TypeRefusal;
