@@ -5,3 +5,4 @@ pub mod Buffers
 mod Least
 pub mod Order
 pub mod Laws
+pub mod Walks

@@ -87,20 +87,23 @@ abbrev pub with_global : Base → Env → Declarator → Env
 with_global base env d = record env {
   scopes = put d.name (decl.Variable (variable_of base d (Static (length env.globals)))) env.scopes;
   globals = env.globals ++ static_variable env base d ∷ [];
-  words = env.words + unwrap_or (static_words env base d) 0 }
+  words = env.words + unwrap_or (static_words env base d) 0;
+}
 
 -- the next static local
 abbrev pub with_static : Base → Env → Declarator → Env
 with_static base env d = record env {
   scopes = put d.name (decl.Variable (variable_of base d (Static (env.file_variables + length env.statics)))) env.scopes;
   statics = env.statics ++ static_variable env base d ∷ [];
-  words = env.words + unwrap_or (static_words env base d) 0 }
+  words = env.words + unwrap_or (static_words env base d) 0;
+}
 
 -- the next slot
 abbrev pub with_local : Base → Env → Declarator → Env
 with_local base env d = record env {
   scopes = put d.name (decl.Variable (variable_of base d (Local env.slots))) env.scopes;
-  slots = env.slots + 1 }
+  slots = env.slots + 1;
+}
 
 -- a declarator in a function
 abbrev pub with_inner : Bool → Base → Env → Declarator → Env
@@ -118,7 +121,8 @@ declared_shape env is_static base d fits given = Item (item.Variable (record {
   base = base;
   kind = declared_kind base d;
   fits = fits;
-  initial = given }))
+  initial = given;
+}))
 
 -- a static variable is one node: its length and its initializer are read as constants
 abbrev pub static_shape : Env → Base → Declarator → Shape

@@ -246,7 +246,8 @@ mpi_call function givens = record {
   kind = datatype_or (first_datatype givens);
   received = last_datatype (datatype_or (first_datatype givens)) givens;
   op = operation_of givens;
-  ignored = is_ignored givens }
+  ignored = is_ignored givens;
+}
 
 -- which arguments a call evaluates, and what they become
 pub data Passing : Type 0 where

@@ -160,7 +160,8 @@ param_shape is_main env parameter = shape.Item (item.Parameter (record {
   is_known = is_some (known parameter.name);
   kind = param_kind parameter;
   is_array = is_written_array parameter.param_type;
-  is_main = is_main }))
+  is_main = is_main;
+}))
 
 abbrev pub params_outline : Bool → Env → List Param → Outline
 params_outline is_main env [] = Empty
@@ -210,7 +211,8 @@ function_made env f body = record {
   slots = (after_all (behind_params env f) body.items).slots;
   body = stmts_made (behind_params env f) body.items;
   ending = ending_of f (answer_kind f.returns);
-  end_line = body.end_line }
+  end_line = body.end_line;
+}
 
 abbrev pub body_made : Env → Function → Option Body → List p.Function
 body_made env f None = []
@@ -317,7 +319,8 @@ start items = record {
   constructs = [];
   slots = 0;
   taken = [];
-  returns = Void }
+  returns = Void;
+}
 
 -- the nodes of a tree: the whole, on line 1, and then its items
 abbrev pub tree_outline : Tree → Outline
@@ -335,4 +338,5 @@ program_made tree =
       functions = functions_made (start tree.items) tree.items;
       main = unwrap_or (numbered (fin.get (definitions_from 0 fin.empty tree.items) (codes "main"))) 0;
       constructs = end.constructs;
-      lines = tree.last_line }
+      lines = tree.last_line;
+    }

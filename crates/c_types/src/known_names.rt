@@ -14,14 +14,38 @@ pub const OTHER_NAMES: [(&str, Known); 26] = [
     ("malloc", Known::Malloc),
     ("free", Known::Free),
     ("NULL", Known::Constant(Kind::Null, Word::Null)),
-    ("MPI_COMM_WORLD", Known::Constant(Kind::Plain(Base::Comm), Word::Comm(1))),
-    ("MPI_COMM_NULL", Known::Constant(Kind::Plain(Base::Comm), Word::Comm(0))),
-    ("MPI_REQUEST_NULL", Known::Constant(Kind::Plain(Base::Request), Word::Req(0))),
-    ("MPI_SUCCESS", Known::Constant(Kind::Plain(Base::Int), Word::Int(0))),
-    ("MPI_ANY_SOURCE", Known::Constant(Kind::Plain(Base::Int), Word::Int(-1))),
-    ("MPI_ANY_TAG", Known::Constant(Kind::Plain(Base::Int), Word::Int(-1))),
-    ("MPI_PROC_NULL", Known::Constant(Kind::Plain(Base::Int), Word::Int(-2))),
-    ("MPI_UNDEFINED", Known::Constant(Kind::Plain(Base::Int), Word::Int(-3))),
+    (
+        "MPI_COMM_WORLD",
+        Known::Constant(Kind::Plain(Base::Comm), Word::Comm(1)),
+    ),
+    (
+        "MPI_COMM_NULL",
+        Known::Constant(Kind::Plain(Base::Comm), Word::Comm(0)),
+    ),
+    (
+        "MPI_REQUEST_NULL",
+        Known::Constant(Kind::Plain(Base::Request), Word::Req(0)),
+    ),
+    (
+        "MPI_SUCCESS",
+        Known::Constant(Kind::Plain(Base::Int), Word::Int(0)),
+    ),
+    (
+        "MPI_ANY_SOURCE",
+        Known::Constant(Kind::Plain(Base::Int), Word::Int(-1)),
+    ),
+    (
+        "MPI_ANY_TAG",
+        Known::Constant(Kind::Plain(Base::Int), Word::Int(-1)),
+    ),
+    (
+        "MPI_PROC_NULL",
+        Known::Constant(Kind::Plain(Base::Int), Word::Int(-2)),
+    ),
+    (
+        "MPI_UNDEFINED",
+        Known::Constant(Kind::Plain(Base::Int), Word::Int(-3)),
+    ),
     ("MPI_INT", Known::Datatype(Datatype::Int)),
     ("MPI_LONG", Known::Datatype(Datatype::Long)),
     ("MPI_MAX", Known::Operation(Op::Max)),

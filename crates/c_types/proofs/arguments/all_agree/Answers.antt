@@ -18,6 +18,6 @@ pub loop-i-preserved : goal.loop-i-preserved
 loop-i-preserved c = (
   c.if-dues-given.false,
   goes all_agree (λ due given. not (misses (agree due) given)) (λ _ _ _ _. refl) (λ _ _. refl) (λ _ _. refl) _ _ _ _ _ _
-  c.loop-i-test.true (let P : ℕ → Type 0 = λ n. c.loop-i.i < n in subst P c.if-dues-given.false c.loop-i-test.true)
-  c.loop-i.invariant.1 (ap not c.disagrees.ensures) (ap not c.if-disagrees.false),
+      c.loop-i-test.true (let P : ℕ → Type 0 = λ n. c.loop-i.i < n in subst P c.if-dues-given.false c.loop-i-test.true)
+      c.loop-i.invariant.1 (ap not c.disagrees.ensures) (ap not c.if-disagrees.false),
 )

@@ -17,6 +17,6 @@ pub loop-i-preserved : goal.loop-i-preserved
 loop-i-preserved c = (
   c.if-rows-given.false,
   goes all_meet meets (λ _ _ _ _. refl) (λ _ _. refl) (λ _ _. refl) _ _ _ _ _ _
-  c.loop-i-test.true (let P : ℕ → Type 0 = λ n. c.loop-i.i < n in subst P c.if-rows-given.false c.loop-i-test.true)
-  c.loop-i.invariant.1 c.meets.ensures c.if-not-meets.false,
+      c.loop-i-test.true (let P : ℕ → Type 0 = λ n. c.loop-i.i < n in subst P c.if-rows-given.false c.loop-i-test.true)
+      c.loop-i.invariant.1 c.meets.ensures c.if-not-meets.false,
 )
