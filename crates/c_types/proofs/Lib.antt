@@ -1,4 +1,3 @@
-pub mod Scopes
 pub mod Known
 pub mod Pairs
 pub mod Buffers
@@ -6,3 +5,5 @@ pub mod DraftSteps
 mod Least
 pub mod Order
 pub mod Laws
+pub mod ScopeMaps
+pub mod Walks

@@ -15,5 +15,6 @@ pub mod Typed
 pub mod Declarations
 pub mod Statements
 pub mod Addresses
+pub mod FrameCode
 pub mod Units
 pub mod Typing

@@ -1,6 +1,7 @@
 //! The rules of typing: the typed program of a tree, or the first rule that the tree breaks.
 #![tactic(auto)]
 
+mod addresses;
 mod agreement;
 mod arguments;
 mod constants;
@@ -11,6 +12,8 @@ mod meanings;
 mod names;
 mod refusals;
 mod rules;
+mod scopes;
 mod shapes;
+mod variables;
 
 pub use refusals::TypeRefusal;
