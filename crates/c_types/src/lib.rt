@@ -10,6 +10,7 @@ mod kinds;
 mod known_names;
 mod meanings;
 mod names;
+mod outcomes;
 mod refusals;
 mod rules;
 mod scopes;
