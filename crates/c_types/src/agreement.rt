@@ -160,6 +160,16 @@ pub fn is_no_pointer(operand: Option<Kind>) -> bool
     }
 }
 
+/// The operand has a type, and is no pointer and not NULL.
+pub fn is_no_place(operand: Option<Kind>) -> bool
+    ensures { result ≡ kinds.misses kinds.points operand }
+{
+    match operand {
+        Some(kind) => !points(kind),
+        None => false,
+    }
+}
+
 /// The operand has a type, and is no MPI_Status.
 pub fn is_no_status(operand: Option<Kind>) -> bool
     ensures { result ≡ kinds.misses kinds.is_status operand }
@@ -196,6 +206,16 @@ pub fn has_place(operand: Option<Kind>) -> bool
 {
     match operand {
         Some(kind) => points(kind),
+        None => false,
+    }
+}
+
+/// The operand is known to be a number.
+pub fn has_number(operand: Option<Kind>) -> bool
+    ensures { result ≡ kinds.has kinds.is_number operand }
+{
+    match operand {
+        Some(kind) => is_number(kind),
         None => false,
     }
 }
