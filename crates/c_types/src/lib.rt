@@ -18,6 +18,7 @@ mod refusals;
 mod rules;
 mod scopes;
 mod shapes;
+mod sharing;
 mod variables;
 
 pub use refusals::TypeRefusal;
