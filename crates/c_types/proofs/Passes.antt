@@ -1,42 +1,36 @@
--- One turn of the passes over declarators: what was found so far goes together with what is found of the next.
-use Rattle.std.proofs.Common.{◌≡◌, ℕ, ◌+◌, ◌<◌, Bool, List, [], ◌∷◌, ◌++◌, refl, sym, ap, ◌∙◌, Vec, Global, Option, None, Some, Result, Ok, Err, IfOk, length, drop, get_or, map}
-use Rattle.std.proofs.lemmas.List.{drop_more, append_assoc}
+-- The items of blocks: what a pass has made of them so far, and what it makes of the next.
+use Rattle.std.proofs.Common.{◌≡◌, ℕ, ◌+◌, ◌<◌, Bool, true, false, List, [], ◌∷◌, ◌++◌, ◌||◌, refl, sym, ap, ◌∙◌, Vec, Global, Option, None, Some, Result, Ok, Err, IfOk, length, drop, get_or, map}
+use Rattle.std.proofs.lemmas.List.{drop_more}
 use Rattle.c_tree.specs.declared.program.Stmt.{Stmt}
-use Rattle.c_tree.specs.declared.syntax.Base.{Base}
-use Rattle.c_tree.specs.declared.syntax.Declarator.{Declarator}
-use Rattle.c_tree.specs.ProgramOf.{stmt_of}
+use Rattle.c_tree.specs.declared.syntax.Place.{Place}
+use Rattle.c_tree.specs.declared.syntax.Stmt as source
+use Rattle.c_tree.specs.declared.syntax.Stmt.TheVariants as written
+use Rattle.c_tree.specs.declared.program.Ending.{Ending}
+use Rattle.c_tree.specs.ProgramOf.{stmt_of, stmts_of, function_of}
 use Rattle.c_tree.specs.Programs as p
-use Rattle.c_tree.specs.SyntaxOf.{declarator_of}
+use Rattle.c_tree.specs.SyntaxOf as syntax
+use Rattle.c_tree.specs.Syntax as x
+use Rattle.c_tree.proofs.ProgramRows as made_rows
+use Rattle.c_tree.proofs.SyntaxRows as rows
+use Rattle.c_types.specs.declared.kinds.Escapes.{Escapes}
 use Rattle.c_types.specs.declared.refusals.TypeRefusal.{TypeRefusal}
-use Rattle.c_types.specs.Declarations.{with_global, with_globals, static_outline, global_outlines, with_inner, with_inners, inner_outline, inner_outlines, declarator_made, declarators_made}
 use Rattle.c_types.specs.Env.{Env, first_some}
-use Rattle.c_types.specs.Nodes.{first_of}
-use Rattle.c_types.specs.Outcomes.{Appends}
+use Rattle.c_types.specs.Nodes.{Outline, first_of}
+use Rattle.c_types.specs.Outcomes.{fault, Appends}
+use Rattle.c_types.specs.Statements.{onto, after, after_all, escapes, escapes_all, escapes_both, stmt_outline, stmts_outline, stmt_made, stmts_made, items_of}
 
-pub some_assoc : {A : Type 0} (a b c : Option A) → first_some (first_some a b) c ≡ first_some a (first_some b c)
-some_assoc None b c = refl
-some_assoc (Some x) b c = refl
+pub onto_done : (items : List Stmt) → stmts_of items ≡ onto (map stmt_of items) p.Done
+onto_done [] = refl
+onto_done (first ∷ rest) = ap (p.Then (stmt_of first)) (onto_done rest)
 
-pub here : {A : Type 0} (all : List A) (i : ℕ) (x : A) → i < length all → x ≡ get_or all i x → drop i all ≡ x ∷ drop (i + 1) all
-here all i x h is = drop_more all i x h ∙ ap (λ y. y ∷ drop (i + 1) all) (sym is)
+-- a block by the list of its items
+pub block_of_items : (items : Vec Stmt Global) (end_line : ℕ) → stmt_of (Rattle.c_tree.specs.declared.program.Stmt.TheVariants.Block items end_line) ≡ p.Block (onto (map stmt_of items.items) p.Done) end_line
+block_of_items items end_line = made_rows.block_is items end_line ∙ ap (λ l. p.Block l end_line) (onto_done items.items)
 
--- the refusal found so far, that of the next part, and that of the others
-pub refusal_on : (old next new one others goal : Option TypeRefusal) → new ≡ first_some old next → next ≡ one → first_some old (first_some one others) ≡ goal → first_some new others ≡ goal
-refusal_on old next new one others goal made is inv = ap (λ o. first_some o others) (made ∙ ap (first_some old) is) ∙ some_assoc old one others ∙ inv
-
-map_append : {A B : Type 0} (f : A → B) (xs ys : List A) → map f (xs ++ ys) ≡ map f xs ++ map f ys
-map_append f [] ys = refl
-map_append f (x ∷ xs) ys = ap (λ l. f x ∷ l) (map_append f xs ys)
-
--- the statements made so far, those of the next part, and those of the others
-pub items_on : (old next new : Result (Vec Stmt Global) TypeRefusal) (one others goal : List p.Stmt)
-    → IfOk new (λ v. Appends old next v.items) → IfOk next (λ v. map stmt_of v.items ≡ one) → IfOk old (λ v. map stmt_of v.items ++ (one ++ others) ≡ goal)
-    → IfOk new (λ v. map stmt_of v.items ++ others ≡ goal)
-items_on old next (Err r) one others goal made is inv = tt
-items_on (Err r) next (Ok v) one others goal made is inv = absurd made
-items_on (Ok u) (Err r) (Ok v) one others goal made is inv = absurd made
-items_on (Ok u) (Ok w) (Ok v) one others goal made is inv =
-    ap (λ l. map stmt_of l ++ others) made
-    ∙ ap (λ l. l ++ others) (map_append stmt_of u.items w.items ∙ ap (λ l. map stmt_of u.items ++ l) is)
-    ∙ append_assoc (map stmt_of u.items) one others
-    ∙ inv
+-- a definition by the list of its items
+pub definition_of_items : (params : List Bool) (slots : ℕ) (items : Vec Stmt Global) (ending : Ending) (end_line : ℕ)
+    → function_of (record { params = params; slots = slots; body = items; ending = ending; end_line = end_line })
+    ≡ record { params = params; slots = slots; body = onto (map stmt_of items.items) p.Done; ending = ending; end_line = end_line }
+definition_of_items params slots items ending end_line =
+    let made : p.Stmts → p.Function = λ body. record { params = params; slots = slots; body = body; ending = ending; end_line = end_line } in
+    ap made (onto_done items.items)

@@ -15,6 +15,7 @@ use Rattle.c_types.specs.declared.kinds.Decl.TheVariants as decl
 use Rattle.c_types.specs.declared.kinds.Escapes.{Escapes}
 use Rattle.c_types.specs.declared.kinds.Home.{Home}
 use Rattle.c_types.specs.declared.kinds.Home.TheVariants as home
+use Rattle.c_types.specs.declared.refusals.TypeRefusal.{TypeRefusal}
 use Rattle.c_types.specs.declared.shapes.StatementShape.TheVariants as shape
 use Rattle.c_types.specs.declared.shapes.Shape.{Shape}
 use Rattle.c_types.specs.declared.shapes.Shape.TheVariants.{Statement}
@@ -25,6 +26,7 @@ use Rattle.c_types.specs.Env.{Env, enter_scope, find, leave_scope}
 use Rattle.c_types.specs.Expressions.{kind_of, outline}
 use Rattle.c_types.specs.Nodes as nodes
 use Rattle.c_types.specs.Nodes.{Outline, At}
+use Rattle.c_types.specs.Rules.{rule}
 use Rattle.c_types.specs.Typed.{typed, converted}
 
 -- ---- statements that share variables
@@ -176,6 +178,11 @@ tested line test inside = At line (Statement (shape.Tested test)) inside
 abbrev pub maybe_tested : ℕ → Option (Option Kind) → Outline → Outline
 maybe_tested line None inside = inside
 maybe_tested line (Some test) inside = tested line test inside
+
+-- its refusal comes before those of what stands in it
+abbrev pub maybe_blame : ℕ → Option (Option Kind) → Option TypeRefusal → Option TypeRefusal
+maybe_blame line None inside = inside
+maybe_blame line (Some test) inside = nodes.blame (rule (Statement (shape.Tested test))) line inside
 
 abbrev pub head_outline : Env → ForHead → Outline
 head_outline env Bare = nodes.Empty

@@ -4,8 +4,10 @@
 mod addresses;
 mod agreement;
 mod arguments;
+mod branches;
 mod constants;
 mod declarations;
+mod directives;
 mod expressions;
 mod formats;
 mod kinds;
@@ -19,6 +21,8 @@ mod rules;
 mod scopes;
 mod shapes;
 mod sharing;
+mod signatures;
+mod statements;
 mod variables;
 
 pub use refusals::TypeRefusal;
