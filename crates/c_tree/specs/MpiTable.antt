@@ -1,9 +1,10 @@
 -- The table of MPI functions: names and arguments.
-use Rattle.std.specs.Prelude.{ℕ, List, codes}
+use Rattle.std.specs.Prelude.{ℕ, List, [], ◌∷◌, cond, Option, None, Some, codes}
+use Rattle.std.specs.Str.{bytes_eq}
 use Rattle.c_tree.specs.declared.mpi.MpiFunction.{MpiFunction}
 use Rattle.c_tree.specs.declared.mpi.MpiFunction.TheVariants.{Init, Finalize, Abort, CommRank, CommSize, CommDup, CommSplit, CommFree, Send, Ssend, Isend, Issend, Irecv, Recv, Sendrecv, Wait, Test, Waitall, Waitany, Probe, Iprobe, GetCount, Barrier, Bcast, Reduce, Allreduce, Scan, Exscan, Gather, Allgather, Scatter, Alltoall}
 use Rattle.c_tree.specs.declared.mpi.Argument.{Argument}
-use Rattle.c_tree.specs.declared.mpi.TheConstants.{INIT_ARGUMENTS, FINALIZE_ARGUMENTS, ABORT_ARGUMENTS, COMM_RANK_ARGUMENTS, COMM_SIZE_ARGUMENTS, COMM_DUP_ARGUMENTS, COMM_SPLIT_ARGUMENTS, COMM_FREE_ARGUMENTS, SEND_ARGUMENTS, SSEND_ARGUMENTS, ISEND_ARGUMENTS, ISSEND_ARGUMENTS, IRECV_ARGUMENTS, RECV_ARGUMENTS, SENDRECV_ARGUMENTS, WAIT_ARGUMENTS, TEST_ARGUMENTS, WAITALL_ARGUMENTS, WAITANY_ARGUMENTS, PROBE_ARGUMENTS, IPROBE_ARGUMENTS, GET_COUNT_ARGUMENTS, BARRIER_ARGUMENTS, BCAST_ARGUMENTS, REDUCE_ARGUMENTS, ALLREDUCE_ARGUMENTS, SCAN_ARGUMENTS, EXSCAN_ARGUMENTS, GATHER_ARGUMENTS, ALLGATHER_ARGUMENTS, SCATTER_ARGUMENTS, ALLTOALL_ARGUMENTS}
+use Rattle.c_tree.specs.declared.mpi.TheConstants.{MPI_FUNCTIONS, INIT_ARGUMENTS, FINALIZE_ARGUMENTS, ABORT_ARGUMENTS, COMM_RANK_ARGUMENTS, COMM_SIZE_ARGUMENTS, COMM_DUP_ARGUMENTS, COMM_SPLIT_ARGUMENTS, COMM_FREE_ARGUMENTS, SEND_ARGUMENTS, SSEND_ARGUMENTS, ISEND_ARGUMENTS, ISSEND_ARGUMENTS, IRECV_ARGUMENTS, RECV_ARGUMENTS, SENDRECV_ARGUMENTS, WAIT_ARGUMENTS, TEST_ARGUMENTS, WAITALL_ARGUMENTS, WAITANY_ARGUMENTS, PROBE_ARGUMENTS, IPROBE_ARGUMENTS, GET_COUNT_ARGUMENTS, BARRIER_ARGUMENTS, BCAST_ARGUMENTS, REDUCE_ARGUMENTS, ALLREDUCE_ARGUMENTS, SCAN_ARGUMENTS, EXSCAN_ARGUMENTS, GATHER_ARGUMENTS, ALLGATHER_ARGUMENTS, SCATTER_ARGUMENTS, ALLTOALL_ARGUMENTS}
 
 -- the function's name in programs
 abbrev pub mpi_name : MpiFunction → List ℕ
@@ -39,6 +40,15 @@ mpi_name Gather = codes "MPI_Gather"
 mpi_name Allgather = codes "MPI_Allgather"
 mpi_name Scatter = codes "MPI_Scatter"
 mpi_name Alltoall = codes "MPI_Alltoall"
+
+-- the first of these functions that has the name
+abbrev pub first_named : List ℕ → List MpiFunction → Option MpiFunction
+first_named name [] = None
+first_named name (f ∷ fs) = cond (bytes_eq (mpi_name f) name) (Some f) (first_named name fs)
+
+-- the function of this name, if there is one
+unfoldable pub mpi_named : List ℕ → Option MpiFunction
+mpi_named name = first_named name MPI_FUNCTIONS
 
 -- what a function takes, in order
 abbrev pub arguments_of : MpiFunction → List Argument

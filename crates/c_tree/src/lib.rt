@@ -10,6 +10,7 @@ mod laws;
 pub mod mpi;
 mod names;
 pub mod program;
+mod reading;
 pub mod scripts;
 pub mod syntax;
 mod trees;

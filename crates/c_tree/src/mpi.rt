@@ -1,5 +1,6 @@
 //! The functions of MPI that programs may call: one table of data, a row for each function.
-ghost use Rattle.std.specs.Prelude.{◌≡◌};
+ghost use Rattle.std.specs.Prelude.{◌≡◌, ◌≢◌, IfSome, None};
+ghost use Rattle.c_tree.specs.declared.mpi.MpiFunction.{MpiFunction};
 ghost use Rattle.c_tree.specs.MpiTable as table;
 
 /// A function of MPI 3.1.
@@ -65,6 +66,42 @@ pub enum Argument {
     /// What MPI_Init takes: NULL, or main's own `&argc` or `&argv`.
     Start,
 }
+
+/// Every function, in the order of the table.
+pub const MPI_FUNCTIONS: [MpiFunction; 32] = [
+    MpiFunction::Init,
+    MpiFunction::Finalize,
+    MpiFunction::Abort,
+    MpiFunction::CommRank,
+    MpiFunction::CommSize,
+    MpiFunction::CommDup,
+    MpiFunction::CommSplit,
+    MpiFunction::CommFree,
+    MpiFunction::Send,
+    MpiFunction::Ssend,
+    MpiFunction::Isend,
+    MpiFunction::Issend,
+    MpiFunction::Irecv,
+    MpiFunction::Recv,
+    MpiFunction::Sendrecv,
+    MpiFunction::Wait,
+    MpiFunction::Test,
+    MpiFunction::Waitall,
+    MpiFunction::Waitany,
+    MpiFunction::Probe,
+    MpiFunction::Iprobe,
+    MpiFunction::GetCount,
+    MpiFunction::Barrier,
+    MpiFunction::Bcast,
+    MpiFunction::Reduce,
+    MpiFunction::Allreduce,
+    MpiFunction::Scan,
+    MpiFunction::Exscan,
+    MpiFunction::Gather,
+    MpiFunction::Allgather,
+    MpiFunction::Scatter,
+    MpiFunction::Alltoall,
+];
 
 pub const INIT_ARGUMENTS: [Argument; 2] = [Argument::Start, Argument::Start];
 
@@ -291,7 +328,28 @@ pub const ALLTOALL_ARGUMENTS: [Argument; 7] = [
     Argument::Comm,
 ];
 
+// The first of the functions that has the name.
+fn first_named(functions: &[MpiFunction], name: &[u8]) -> Option<MpiFunction>
+    ensures { result ≡ table.first_named name.now functions.now }
+{
+    for function in functions {
+        if function.name().as_bytes() == name {
+            return Some(*function);
+        }
+    }
+    None
+}
+
 impl MpiFunction {
+    /// The function that programs call by this name, if there is one.
+    pub fn named(name: &[u8]) -> Option<MpiFunction>
+        ensures value { result ≡ table.mpi_named name.now }
+        ensures named { IfSome result (λ f. table.mpi_name f ≡ name.now) }
+        ensures others { result ≡ None → (f : MpiFunction) → table.mpi_name f ≢ name.now }
+    {
+        first_named(&MPI_FUNCTIONS, name)
+    }
+
     /// The function's name in programs.
     pub fn name(self) -> &'static str
         ensures { result.now ≡ table.mpi_name self }

@@ -1,5 +1,7 @@
-//! The variables of a program, in order of their numbers.
+//! The variables of a program, in order of their numbers, and MPI functions by their names.
 
+use crate::mpi::{MPI_FUNCTIONS, MpiFunction};
+use crate::program::{self, Construct, Constructs, HlsKind};
 use crate::{Function, Globals, Program};
 use mpc_base::{Level, StaticVar, Word, Words};
 use std::test::*;
@@ -42,4 +44,51 @@ fn globals_hold_their_variables(rt: HostRuntime) -> Result<(), Fail> {
     }
     assert_eq!(rt; program.variables.into_vec().len(), 2);
     Ok(())
+}
+
+#[test]
+fn a_typed_program_tells_its_parts(rt: HostRuntime) -> Result<(), Fail> {
+    let alloc = rt.alloc();
+    let shared = StaticVar {
+        len: 3,
+        level: Some(Level::Core),
+        first: Words::of(Vec::new(alloc)),
+    };
+    let barrier = Construct {
+        kind: HlsKind::Barrier,
+        level: Level::Core,
+    };
+    let program = program::Program {
+        variables: Globals::of(vec![in alloc; shared]?),
+        functions: Vec::new(alloc),
+        main: 0,
+        constructs: Constructs::of(vec![in alloc; barrier]?),
+        lines: 12,
+    };
+    assert_eq!(rt; program.globals().len(), 1);
+    assert_eq!(rt; program.functions(), 0);
+    assert_eq!(rt; program.line_count(), 12);
+    assert_eq!(rt; program.constructs(), 1);
+    assert_eq!(rt; program.constructs.as_slice().len(), 1);
+    assert_eq!(rt; program.construct(0), barrier);
+    Ok(())
+}
+
+#[test]
+fn mpi_functions_are_found_by_their_whole_names(rt: HostRuntime) {
+    for function in &MPI_FUNCTIONS {
+        let name = function.name().as_bytes();
+        assert_eq!(rt; MpiFunction::named(name), Some(*function));
+    }
+    for other in [
+        "",
+        "MPI_",
+        "MPI_Ini",
+        "MPI_Init_",
+        "mpi_init",
+        "MPI_Wtime",
+        "MPI_INT",
+    ] {
+        assert_eq!(rt; MpiFunction::named(other.as_bytes()), None, "{other}");
+    }
 }

@@ -1,0 +1,10 @@
+pub mod Known
+pub mod Pairs
+pub mod Buffers
+pub mod DraftSteps
+mod Least
+pub mod Order
+pub mod Laws
+pub mod ScopeMaps
+pub mod Walks
+pub mod Passes

@@ -1,0 +1,28 @@
+//! The rules of typing: the typed program of a tree, or the first rule that the tree breaks.
+#![tactic(auto)]
+
+mod addresses;
+mod agreement;
+mod arguments;
+mod branches;
+mod constants;
+mod declarations;
+mod directives;
+mod expressions;
+mod formats;
+mod kinds;
+mod known_names;
+mod making;
+mod meanings;
+mod names;
+mod outcomes;
+mod refusals;
+mod rules;
+mod scopes;
+mod shapes;
+mod sharing;
+mod signatures;
+mod statements;
+mod variables;
+
+pub use refusals::TypeRefusal;
