@@ -10,6 +10,7 @@ pub mod ItemRows
 pub mod ItemsRead
 pub mod LastLines
 pub mod Laws
+pub mod Refused
 pub mod Repeats
 pub mod Sets
 pub mod Shown

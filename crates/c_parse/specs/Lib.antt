@@ -7,6 +7,7 @@ pub mod Insides
 pub mod Nests
 pub mod Parsed
 pub mod Phrases
+pub mod Places
 pub mod Reading
 pub mod Signs
 pub mod SourceGrammar

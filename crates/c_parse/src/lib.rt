@@ -1,4 +1,7 @@
 //! The tree of a source: a parser from tokens to the tree without types.
+//!
+//! `parse` gives the tree that the tokens of a source spell (`Spelt` of specs/Parsed.antt), and refuses
+//! them at the place that `RefusedAt` names where they spell none.
 #![tactic(auto)]
 
 mod binaries;
@@ -9,6 +12,7 @@ mod expressions;
 mod grammar;
 mod nodes;
 mod params;
+mod parser;
 mod primaries;
 mod refusals;
 mod signs;
@@ -20,4 +24,5 @@ mod tokens;
 mod types;
 mod unaries;
 
+pub use parser::parse;
 pub use refusals::ParseRefusal;
