@@ -35,16 +35,16 @@ module _ (code : Code) (frames : List Frame) (ln : ℕ) where
       let hb = has_back code p b _ h.1 in
       let end : pc + length (and_code a b) ≡ p + length b + 1 + 1 + 1 = omega (arith, length-append a (i.Unless (length b + 2) ∷ (b ++ tail)), length-append b tail) in
       ga pc stack s (λ x s'. if_holds x (mb >>= (λ y. pure (truth (holds y)))) (pure (truth false)) k s') (has_front code pc a _ has) (λ x s1 le1.
-        unless_ok code frames ln (pc + length a) (length b + 2) x stack s1 (mb >>= (λ y. pure (truth (holds y)))) (pure (truth false)) k h.0
-        (gb p stack s1 (λ y s'. k (truth (holds y)) s') (has_front code p b _ h.1) (λ y s2 le2.
-          truth_at (p + length b) y stack s2 (k (truth (holds y)) s2) hb.0
-          (skip_ok code frames ln (p + length b + 1) 1 (truth (holds y) ∷ stack) s2 (k (truth (holds y)) s2) hb.1.0
-            (moved_to code _ _ (truth (holds y) ∷ stack) frames ln s2 _ end (r (truth (holds y)) s2 (omega (arith, le1, le2)))))))
-        (let e : p + length b + 1 + 1 ≡ p + (length b + 2) = omega arith in
-         moved_to code _ _ stack frames ln s1 _ e
-         (push_at (p + length b + 1 + 1) (Int (pos 0)) stack s1 (k (truth false) s1) hb.1.1.0
-           (moved_to code _ _ (Int (pos 0) ∷ stack) frames ln s1 _ end (r (truth false) s1 le1))))
-        (holds x) refl)
+      unless_ok code frames ln (pc + length a) (length b + 2) x stack s1 (mb >>= (λ y. pure (truth (holds y)))) (pure (truth false)) k h.0
+      (gb p stack s1 (λ y s'. k (truth (holds y)) s') (has_front code p b _ h.1) (λ y s2 le2.
+      truth_at (p + length b) y stack s2 (k (truth (holds y)) s2) hb.0
+      (skip_ok code frames ln (p + length b + 1) 1 (truth (holds y) ∷ stack) s2 (k (truth (holds y)) s2) hb.1.0
+      (moved_to code _ _ (truth (holds y) ∷ stack) frames ln s2 _ end (r (truth (holds y)) s2 (omega (arith, le1, le2)))))))
+      (let e : p + length b + 1 + 1 ≡ p + (length b + 2) = omega arith in
+      moved_to code _ _ stack frames ln s1 _ e
+      (push_at (p + length b + 1 + 1) (Int (pos 0)) stack s1 (k (truth false) s1) hb.1.1.0
+      (moved_to code _ _ (Int (pos 0) ∷ stack) frames ln s1 _ end (r (truth false) s1 le1))))
+      (holds x) refl)
 
   pub or_ok : (a b : List Instr) (ma mb : Step Word) → Gives code frames ln a ma → Gives code frames ln b mb
       → Gives code frames ln (or_code a b) (ma >>= (λ x. if_holds x (pure (truth true)) (mb >>= (λ y. pure (truth (holds y))))))
@@ -56,17 +56,17 @@ module _ (code : Code) (frames : List Frame) (ln : ℕ) where
       let hb = has_back code q b _ h.1.1.1 in
       let end : pc + length (or_code a b) ≡ q + length b + 1 = omega (arith, length-append a (i.Unless 2 ∷ i.Push (Int (pos 1)) ∷ i.Skip (length b + 1) ∷ (b ++ tail)), length-append b tail) in
       ga pc stack s (λ x s'. if_holds x (pure (truth true)) (mb >>= (λ y. pure (truth (holds y)))) k s') (has_front code pc a _ has) (λ x s1 le1.
-        unless_ok code frames ln (pc + length a) 2 x stack s1 (pure (truth true)) (mb >>= (λ y. pure (truth (holds y)))) k h.0
-        (push_at p (Int (pos 1)) stack s1 (k (truth true) s1) h.1.0
-          (skip_ok code frames ln (p + 1) (length b + 1) (Int (pos 1) ∷ stack) s1 (k (truth true) s1) h.1.1.0
-            (let e : pc + length (or_code a b) ≡ p + 1 + 1 + (length b + 1) = omega (arith, end) in
-             moved_to code _ _ (Int (pos 1) ∷ stack) frames ln s1 _ e (r (truth true) s1 le1))))
-        (let e : q ≡ p + 2 = omega arith in
-         moved_to code _ _ stack frames ln s1 _ e
-         (gb q stack s1 (λ y s'. k (truth (holds y)) s') (has_front code q b _ h.1.1.1) (λ y s2 le2.
-           truth_at (q + length b) y stack s2 (k (truth (holds y)) s2) hb.0
-           (moved_to code _ _ (truth (holds y) ∷ stack) frames ln s2 _ end (r (truth (holds y)) s2 (omega (arith, le1, le2)))))))
-        (holds x) refl)
+      unless_ok code frames ln (pc + length a) 2 x stack s1 (pure (truth true)) (mb >>= (λ y. pure (truth (holds y)))) k h.0
+      (push_at p (Int (pos 1)) stack s1 (k (truth true) s1) h.1.0
+      (skip_ok code frames ln (p + 1) (length b + 1) (Int (pos 1) ∷ stack) s1 (k (truth true) s1) h.1.1.0
+      (let e : pc + length (or_code a b) ≡ p + 1 + 1 + (length b + 1) = omega (arith, end) in
+      moved_to code _ _ (Int (pos 1) ∷ stack) frames ln s1 _ e (r (truth true) s1 le1))))
+      (let e : q ≡ p + 2 = omega arith in
+      moved_to code _ _ stack frames ln s1 _ e
+      (gb q stack s1 (λ y s'. k (truth (holds y)) s') (has_front code q b _ h.1.1.1) (λ y s2 le2.
+      truth_at (q + length b) y stack s2 (k (truth (holds y)) s2) hb.0
+      (moved_to code _ _ (truth (holds y) ∷ stack) frames ln s2 _ end (r (truth (holds y)) s2 (omega (arith, le1, le2)))))))
+      (holds x) refl)
 
   pub choice_ok : (c a b : List Instr) (mc ma mb : Step Word) → Gives code frames ln c mc → Gives code frames ln a ma → Gives code frames ln b mb
       → Gives code frames ln (choice_code c a b) (mc >>= (λ x. if_holds x ma mb))
@@ -77,14 +77,14 @@ module _ (code : Code) (frames : List Frame) (ln : ℕ) where
       let q = p + length a + 1 in
       let end : pc + length (choice_code c a b) ≡ q + length b = omega (arith, length-append c (i.Unless (length a + 1) ∷ (a ++ (i.Skip (length b) ∷ b))), length-append a (i.Skip (length b) ∷ b)) in
       gc pc stack s (λ x s'. if_holds x ma mb k s') (has_front code pc c _ has) (λ x s1 le1.
-        unless_ok code frames ln (pc + length c) (length a + 1) x stack s1 ma mb k h.0
-        (ga p stack s1 k (has_front code p a _ h.1) (λ y s2 le2.
-          skip_ok code frames ln (p + length a) (length b) (y ∷ stack) s2 (k y s2) ha.0
-          (moved_to code _ _ (y ∷ stack) frames ln s2 _ end (r y s2 (omega (arith, le1, le2))))))
-        (let e : q ≡ p + (length a + 1) = omega arith in
-         moved_to code _ _ stack frames ln s1 _ e
-         (gb q stack s1 k ha.1 (λ y s2 le2. moved_to code _ _ (y ∷ stack) frames ln s2 _ end (r y s2 (omega (arith, le1, le2))))))
-        (holds x) refl)
+      unless_ok code frames ln (pc + length c) (length a + 1) x stack s1 ma mb k h.0
+      (ga p stack s1 k (has_front code p a _ h.1) (λ y s2 le2.
+      skip_ok code frames ln (p + length a) (length b) (y ∷ stack) s2 (k y s2) ha.0
+      (moved_to code _ _ (y ∷ stack) frames ln s2 _ end (r y s2 (omega (arith, le1, le2))))))
+      (let e : q ≡ p + (length a + 1) = omega arith in
+      moved_to code _ _ stack frames ln s1 _ e
+      (gb q stack s1 k ha.1 (λ y s2 le2. moved_to code _ _ (y ∷ stack) frames ln s2 _ end (r y s2 (omega (arith, le1, le2))))))
+      (holds x) refl)
 
   -- ---- `++` and `--`
 
@@ -97,8 +97,8 @@ module _ (code : Code) (frames : List Frame) (ln : ℕ) where
   then_ok a c ma f ga gc pc stack s k has r =
       let len : pc + length (a ++ c) ≡ pc + length a + length c = omega (arith, length-append a c) in
       ga pc stack s (λ x s'. f x k s') (has_front code pc a c has) (λ x s1 le1.
-        gc (pc + length a) x stack s1 k (has_back code pc a c has) (λ u s2 le2.
-          moved_to code _ _ (u ∷ stack) frames ln s2 _ len (r u s2 (omega (arith, le1, le2)))))
+      gc (pc + length a) x stack s1 k (has_back code pc a c has) (λ u s2 le2.
+      moved_to code _ _ (u ∷ stack) frames ln s2 _ len (r u s2 (omega (arith, le1, le2)))))
 
   -- the new value of a variable, whose old one is on top
   updated_at : (pc : ℕ) (update : Update) (line : ℕ) (old : Word) (stack : List Word) (s : State) (k : Word → State → Next) → Is code frames ln pc (i.Push (Int (pos 1))) → Is code frames ln (pc + 1) (i.Update update line)
@@ -119,32 +119,32 @@ module _ (code : Code) (frames : List Frame) (ln : ℕ) where
       (value_of_local slot line >>= (λ old. updated update old (Int (pos 1)) line >>= (λ new. set slot new >>= (λ w. pure (cond before new old)))))
   step_local_ok update true slot line pc stack s k has r =
       get_ok code frames ln slot line pc stack s _ (has.0, tt) (λ old s1 le1.
-        updated_at (pc + 1) update line old stack s1 (λ new s'. set slot new (λ w s''. k new s'') s') has.1.0 has.1.1.0 (λ new s2 le2.
-          set_ok code frames ln slot (pc + 1 + 1 + 1) new stack s2 k has.1.1.1.0 (λ u s3 le3.
-            let e : pc + 4 ≡ pc + 1 + 1 + 1 + 1 = omega arith in
-            moved_to code _ _ (u ∷ stack) frames ln s3 _ e (r u s3 (omega (arith, le1, le2, le3))))))
+      updated_at (pc + 1) update line old stack s1 (λ new s'. set slot new (λ w s''. k new s'') s') has.1.0 has.1.1.0 (λ new s2 le2.
+      set_ok code frames ln slot (pc + 1 + 1 + 1) new stack s2 k has.1.1.1.0 (λ u s3 le3.
+      let e : pc + 4 ≡ pc + 1 + 1 + 1 + 1 = omega arith in
+      moved_to code _ _ (u ∷ stack) frames ln s3 _ e (r u s3 (omega (arith, le1, le2, le3))))))
   step_local_ok update false slot line pc stack s k has r =
       get_ok code frames ln slot line pc stack s _ (has.0, tt) (λ old s1 le1.
-        duplicate_at (pc + 1) old stack s1 _ has.1.0
-        (updated_at (pc + 1 + 1) update line old (old ∷ stack) s1 (λ new s'. set slot new (λ w s''. k old s'') s') has.1.1.0 has.1.1.1.0 (λ new s2 le2.
-          set_ok code frames ln slot (pc + 1 + 1 + 1 + 1) new (old ∷ stack) s2 (λ u s'. k old s') has.1.1.1.1.0 (λ u s3 le3.
-            pop_ok code frames ln (pc + 1 + 1 + 1 + 1 + 1) u (old ∷ stack) s3 (k old s3) has.1.1.1.1.1.0
-            (let e : pc + 6 ≡ pc + 1 + 1 + 1 + 1 + 1 + 1 = omega arith in
-             moved_to code _ _ (old ∷ stack) frames ln s3 _ e (r old s3 (omega (arith, le1, le2, le3))))))))
+      duplicate_at (pc + 1) old stack s1 _ has.1.0
+      (updated_at (pc + 1 + 1) update line old (old ∷ stack) s1 (λ new s'. set slot new (λ w s''. k old s'') s') has.1.1.0 has.1.1.1.0 (λ new s2 le2.
+      set_ok code frames ln slot (pc + 1 + 1 + 1 + 1) new (old ∷ stack) s2 (λ u s'. k old s') has.1.1.1.1.0 (λ u s3 le3.
+      pop_ok code frames ln (pc + 1 + 1 + 1 + 1 + 1) u (old ∷ stack) s3 (k old s3) has.1.1.1.1.1.0
+      (let e : pc + 6 ≡ pc + 1 + 1 + 1 + 1 + 1 + 1 = omega arith in
+      moved_to code _ _ (old ∷ stack) frames ln s3 _ e (r old s3 (omega (arith, le1, le2, le3))))))))
 
   pub step_store_ok : (update : Update) (before : Bool) (line : ℕ) → OnTop (step_store update before line)
       (λ p. load (scalar_of update) p line >>= (λ old. updated update old (Int (pos 1)) line >>= (λ new. store p new line >>= (λ w. pure (cond before new old)))))
   step_store_ok update true line pc p stack s k has r =
       peek_ok code frames ln (scalar_of update) line p pc stack s _ (has.0, tt) (λ old s1 le1.
-        updated_at (pc + 1) update line old (p ∷ stack) s1 (λ new s'. store p new line (λ w s''. k new s'') s') has.1.0 has.1.1.0 (λ new s2 le2.
-          store_ok code frames ln line (pc + 1 + 1 + 1) p new stack s2 k has.1.1.1.0 (λ u s3 le3.
-            let e : pc + 4 ≡ pc + 1 + 1 + 1 + 1 = omega arith in
-            moved_to code _ _ (u ∷ stack) frames ln s3 _ e (r u s3 (omega (arith, le1, le2, le3))))))
+      updated_at (pc + 1) update line old (p ∷ stack) s1 (λ new s'. store p new line (λ w s''. k new s'') s') has.1.0 has.1.1.0 (λ new s2 le2.
+      store_ok code frames ln line (pc + 1 + 1 + 1) p new stack s2 k has.1.1.1.0 (λ u s3 le3.
+      let e : pc + 4 ≡ pc + 1 + 1 + 1 + 1 = omega arith in
+      moved_to code _ _ (u ∷ stack) frames ln s3 _ e (r u s3 (omega (arith, le1, le2, le3))))))
   step_store_ok update false line pc p stack s k has r =
       peek_ok code frames ln (scalar_of update) line p pc stack s _ (has.0, tt) (λ old s1 le1.
-        tuck_at (pc + 1) old p stack s1 _ has.1.0
-        (updated_at (pc + 1 + 1) update line old (p ∷ old ∷ stack) s1 (λ new s'. store p new line (λ w s''. k old s'') s') has.1.1.0 has.1.1.1.0 (λ new s2 le2.
-          store_ok code frames ln line (pc + 1 + 1 + 1 + 1) p new (old ∷ stack) s2 (λ w s'. k old s') has.1.1.1.1.0 (λ u s3 le3.
-            pop_ok code frames ln (pc + 1 + 1 + 1 + 1 + 1) u (old ∷ stack) s3 (k old s3) has.1.1.1.1.1.0
-            (let e : pc + 6 ≡ pc + 1 + 1 + 1 + 1 + 1 + 1 = omega arith in
-             moved_to code _ _ (old ∷ stack) frames ln s3 _ e (r old s3 (omega (arith, le1, le2, le3))))))))
+      tuck_at (pc + 1) old p stack s1 _ has.1.0
+      (updated_at (pc + 1 + 1) update line old (p ∷ old ∷ stack) s1 (λ new s'. store p new line (λ w s''. k old s'') s') has.1.1.0 has.1.1.1.0 (λ new s2 le2.
+      store_ok code frames ln line (pc + 1 + 1 + 1 + 1) p new (old ∷ stack) s2 (λ w s'. k old s') has.1.1.1.1.0 (λ u s3 le3.
+      pop_ok code frames ln (pc + 1 + 1 + 1 + 1 + 1) u (old ∷ stack) s3 (k old s3) has.1.1.1.1.1.0
+      (let e : pc + 6 ≡ pc + 1 + 1 + 1 + 1 + 1 + 1 = omega arith in
+      moved_to code _ _ (old ∷ stack) frames ln s3 _ e (r old s3 (omega (arith, le1, le2, le3))))))))

@@ -30,7 +30,7 @@ use Rattle.c_compile.proofs.Choices.{and_ok, or_ok, choice_ok, then_ok, step_loc
 -- A call's instruction does what the call does.
 pub record CallsDo (code : Code) (calls : Calls) (frames : List Frame) (ln : ℕ) : Type 0 where
   pub call : (number count line pc : ℕ) (args stack : List Word) (s : State) (k : Word → State → Next) → slice_get code.instrs pc ≡ Some (i.Call number count line) → length args ≡ count
-    → ((v : Word) (s' : State) → s'.turns ≤ s.turns → Runs code frames ln (pc + 1) (v ∷ stack) s' (k v s')) → Runs code frames ln pc (pushed args stack) s (calls number args line k s)
+      → ((v : Word) (s' : State) → s'.turns ≤ s.turns → Runs code frames ln (pc + 1) (v ∷ stack) s' (k v s')) → Runs code frames ln pc (pushed args stack) s (calls number args line k s)
 
 module _ (code : Code) (frames : List Frame) (ln : ℕ) where
   print_ok : (format : List Piece) (count line pc : ℕ) (args stack : List Word) (s : State) (k : Word → State → Next) → Is code frames ln pc (i.Print (record { format = format; count = count }) line) → length args ≡ count
@@ -65,12 +65,12 @@ module _ (code : Code) (frames : List Frame) (ln : ℕ) where
       expr_ok (p.UpdateLocal update slot value) =
           one_ok code frames ln [] (i.Get slot line ∷ (expr_code line value ++ i.Update update line ∷ [])) _ (i.Set slot) (set slot)
           (two_ok code frames ln [] (i.Get slot line ∷ []) _ _ (λ x. eval calls line value) (i.Update update line) (λ old right. updated update old right line) (get_ok code frames ln slot line)
-            (λ x pc stack s k has r. expr_ok value pc (x ∷ stack) s k has r) (update_ok code frames ln update line))
+          (λ x pc stack s k has r. expr_ok value pc (x ∷ stack) s k has r) (update_ok code frames ln update line))
           (set_ok code frames ln slot)
       expr_ok (p.UpdateStore update place value) =
           two_ok code frames ln [] _ (i.Peek (scalar_of update) line ∷ (expr_code line value ++ i.Update update line ∷ [])) _ (λ pointer. load (scalar_of update) pointer line >>= (λ old. eval calls line value >>= (λ right. updated update old right line))) (i.Store line) (λ pointer new. store pointer new line) (expr_ok place)
           (λ pointer. two_ok code frames ln (pointer ∷ []) (i.Peek (scalar_of update) line ∷ []) _ _ (λ old. eval calls line value) (i.Update update line) (λ old right. updated update old right line) (peek_ok code frames ln (scalar_of update) line pointer)
-            (λ x pc stack s k has r. expr_ok value pc (x ∷ stack) s k has r) (update_ok code frames ln update line))
+          (λ x pc stack s k has r. expr_ok value pc (x ∷ stack) s k has r) (update_ok code frames ln update line))
           (store_ok code frames ln line)
       expr_ok (p.StepLocal update before slot) = step_local_ok code frames ln update before slot line
       expr_ok (p.StepStore update before place) = then_ok code frames ln _ _ _ _ (expr_ok place) (step_store_ok code frames ln update before line)
@@ -100,8 +100,8 @@ module _ (code : Code) (frames : List Frame) (ln : ℕ) where
           let b = callee_code line c (count_of arguments) in
           let len : pc + length (a ++ b) ≡ pc + length a + length b = omega (arith, length-append a b) in
           exprs_ok arguments pc stack s _ (has_front code pc a b has) (λ ws s1 n le1.
-            callee_ok c (count_of arguments) (pc + length a) ws stack s1 k (has_back code pc a b has) n
-            (λ v s2 le2. moved_to code _ _ (v ∷ stack) frames ln s2 _ len (r v s2 (omega (arith, le1, le2)))))
+          callee_ok c (count_of arguments) (pc + length a) ws stack s1 k (has_back code pc a b has) n
+          (λ v s2 le2. moved_to code _ _ (v ∷ stack) frames ln s2 _ len (r v s2 (omega (arith, le1, le2)))))
 
       pub exprs_ok : (es : p.Exprs) (pc : ℕ) (stack : List Word) (s : State) (k : List Word → State → Next) → HasAt code pc (exprs_code line es)
           → ((ws : List Word) (s' : State) → length ws ≡ count_of es → s'.turns ≤ s.turns → Runs code frames ln (pc + length (exprs_code line es)) (pushed ws stack) s' (k ws s')) → Runs code frames ln pc stack s (eval_all calls line es k s)
@@ -113,5 +113,5 @@ module _ (code : Code) (frames : List Frame) (ln : ℕ) where
           let b = exprs_code line es in
           let len : pc + length (a ++ b) ≡ pc + length a + length b = omega (arith, length-append a b) in
           expr_ok e pc stack s _ (has_front code pc a b has) (λ w s1 le1.
-            exprs_ok es (pc + length a) (w ∷ stack) s1 _ (has_back code pc a b has) (λ ws s2 n le2.
-              moved_to code _ _ (pushed ws (w ∷ stack)) frames ln s2 _ len (r (w ∷ ws) s2 (ap suc n) (omega (arith, le1, le2)))))
+          exprs_ok es (pc + length a) (w ∷ stack) s1 _ (has_back code pc a b has) (λ ws s2 n le2.
+          moved_to code _ _ (pushed ws (w ∷ stack)) frames ln s2 _ len (r (w ∷ ws) s2 (ap suc n) (omega (arith, le1, le2)))))

@@ -84,13 +84,13 @@ module _ (code : Code) (frames : List Frame) (ln : ℕ) where
       let m : Step Exit = with_params ln end (slot + 1) more mb >>= (λ e. release slot (drop_line e end) >>= (λ a. pure e)) in
       let e : suc slot ≡ slot + 1 = omega arith in
       let inner : Does code frames ln (inside slot place) (params_code end (suc slot) more (inside slot place) body) (with_params ln end (slot + 1) more mb) =
-        subst (λ n. Does code frames ln (inside slot place) (params_code end (suc slot) more (inside slot place) body) (with_params ln end n more mb)) e (params_ok end (suc slot) more (inside slot place) body mb g) in
+      subst (λ n. Does code frames ln (inside slot place) (params_code end (suc slot) more (inside slot place) body) (with_params ln end n more mb)) e (params_ok end (suc slot) more (inside slot place) body mb g) in
       let far : pc + length (i.SaveParam slot ∷ i.NewParam slot ∷ i.StoreParam slot ∷ c) ≡ pc + 1 + 1 + 1 + length c = omega arith in
       save_ok slot pc stack s _ has.0
       (made_ok slot (pc + 1) (slice_index_or s.slots slot Undef ∷ stack) s _ has.1.0 (λ v s1 l1.
-        kept_ok slot (pc + 1 + 1) (slice_index_or s.slots slot Undef) stack s1 (λ a s'. m k s') has.1.1.0 (λ a s2 l2.
-          dropped_ok code frames ln place slot end (params_code end (suc slot) more (inside slot place) body) (with_params ln end (slot + 1) more mb) inner (pc + 1 + 1 + 1) stack s2 k has.1.1.1
-          (subst (λ q. Exits code frames ln place q stack s2.turns k) far (fewer code frames ln place _ stack _ _ k (omega (arith, l1, l2)) x)))))
+      kept_ok slot (pc + 1 + 1) (slice_index_or s.slots slot Undef) stack s1 (λ a s'. m k s') has.1.1.0 (λ a s2 l2.
+      dropped_ok code frames ln place slot end (params_code end (suc slot) more (inside slot place) body) (with_params ln end (slot + 1) more mb) inner (pc + 1 + 1 + 1) stack s2 k has.1.1.1
+      (subst (λ q. Exits code frames ln place q stack s2.turns k) far (fewer code frames ln place _ stack _ _ k (omega (arith, l1, l2)) x)))))
 
 push_zero : (code : Code) (frames : List Frame) (ln pc : ℕ) (stack : List Word) (s : State) (o : Next) → slice_get code.instrs pc ≡ Some (i.Push (Int (pos 0))) → Runs code frames ln (pc + 1) (Int (pos 0) ∷ stack) s o → Runs code frames ln pc stack s o
 unfolding step_of
@@ -127,6 +127,7 @@ function_ok code frames ln calls call_ok f start stack s k has r =
   where
     zero_at : (q : ℕ) (s' : State) → HasAt code q (i.Push (Int (pos 0)) ∷ i.Return f.end_line ∷ []) → (exit : Exit) → value_of exit ≡ Int (pos 0) → s'.turns ≤ s.turns → Lines f exit f.end_line → Runs code frames ln q stack s' (k exit s')
     zero_at q s' h exit is le lines = push_zero code frames ln q stack s' (k exit s') h.0 (subst (λ v. Runs code frames ln (q + 1) (v ∷ stack) s' (k exit s')) is (r exit f.end_line (q + 1) s' le h.1.0 lines))
+
     jumped : (pc n : ℕ) → slice_get code.instrs pc ≡ Some (i.Skip n) → pc + 0 + 1 + n ≡ start + length (params_code f.end_line 0 f.params outside (items_code f.end_line (ending_code f.ending f.end_line) f.body)) + 0 → (s' : State) {o : Next}
         → Runs code frames ln (start + length (params_code f.end_line 0 f.params outside (items_code f.end_line (ending_code f.ending f.end_line) f.body))) stack s' o → Runs code frames ln pc stack s' o
     jumped pc n h d s' {o} t =
@@ -169,40 +170,44 @@ module _ (code : Code) (fs : List p.Function) (entries : code.entries ≡ entrie
     too_deep : (k : Word → State → Next) → nat_lt (length frames + 1) 1024 ≡ false → Runs code frames ln pc (pushed args stack) s (tick line (λ u s'. fault fault_of.Depth line k s') s)
     too_deep k deep =
         call_ticks (λ u s'. fault fault_of.Depth line k s') (λ left is st.
-          faults code here (i.Call number count line) fault_of.Depth line (record s { turns = left }) k refl h
-          (st ∙ ap (λ b. cond b (entered here line left (arguments_on count (pushed args stack)) (drop count (pushed args stack)) (slice_get code.entries number)) (breaks fault_of.Depth line)) deep))
+        faults code here (i.Call number count line) fault_of.Depth line (record s { turns = left }) k refl h
+        (st ∙ ap (λ b. cond b (entered here line left (arguments_on count (pushed args stack)) (drop count (pushed args stack)) (slice_get code.entries number)) (breaks fault_of.Depth line)) deep))
 
     enter_ok : (calls : Calls) → ((fr : Frame) (l : ℕ) → CallsDo code calls (fr ∷ frames) l) → (k : Word → State → Next) → nat_lt (length frames + 1) 1024 ≡ true → length args ≡ count
         → ((v : Word) (s' : State) → s'.turns ≤ s.turns → Runs code frames ln (pc + 1) (v ∷ stack) s' (k v s')) → (o : Option p.Function) → slice_get fs number ≡ o → Runs code frames ln pc (pushed args stack) s (called calls o args line k s)
     enter_ok calls calls_ok' k shallow n r None e =
         call_ticks (λ u s'. fault fault_of.Depth line k s') (λ left is st.
-          faults code here (i.Call number count line) fault_of.Depth line (record s { turns = left }) k refl h
-          (st ∙ ap (λ b. cond b (entered here line left (arguments_on count (pushed args stack)) (drop count (pushed args stack)) (slice_get code.entries number)) (breaks fault_of.Depth line)) shallow
-            ∙ ap (entered here line left (arguments_on count (pushed args stack)) (drop count (pushed args stack))) (ap (λ l. slice_get l number) entries ∙ absent fs 0 number e)))
+        faults code here (i.Call number count line) fault_of.Depth line (record s { turns = left }) k refl h
+        (st ∙ ap (λ b. cond b (entered here line left (arguments_on count (pushed args stack)) (drop count (pushed args stack)) (slice_get code.entries number)) (breaks fault_of.Depth line)) shallow
+        ∙ ap (entered here line left (arguments_on count (pushed args stack)) (drop count (pushed args stack))) (ap (λ l. slice_get l number) entries ∙ absent fs 0 number e)))
     enter_ok calls calls_ok' k shallow n r (Some f) e =
         let st' = stands code fs 0 number f all e in
         call_ticks (λ u s'. exit_of calls f args line (λ exit s''. k (value_of exit) s'') s') (λ left is st.
-          let inner : State = record s { turns = left; slots = slots_of f.slots args } in
-          let fr : Frame = record { pc = pc + 1; slots = s.slots; line = ln } in
-          goes code here (at st'.0.start stack (fr ∷ frames) line (slots_of f.slots args) left) (i.Call number count line) s.answers _ refl h
-          (st ∙ ap (λ b. cond b (entered here line left (arguments_on count (pushed args stack)) (drop count (pushed args stack)) (slice_get code.entries number)) (breaks fault_of.Depth line)) shallow
-            ∙ ap (entered here line left (arguments_on count (pushed args stack)) (drop count (pushed args stack))) (ap (λ l. slice_get l number) entries ∙ st'.1)
-            ∙ ap (λ given. entered here line left given (drop count (pushed args stack)) (Some st'.0)) (taken count args stack n)
-            ∙ ap (λ rest. entered here line left args rest (Some st'.0)) (dropped count args stack n)
-            ∙ ap (λ slots. Moves (at st'.0.start stack (fr ∷ frames) line (slots_of slots args) left)) st'.2)
-          (function_ok code (fr ∷ frames) line calls (calls_ok' fr line) f st'.0.start stack inner (λ exit s''. k (value_of exit) (record s'' { slots = s.slots })) st'.3
-            (λ exit line' pc' s' le hr lines.
-              return_to code fr frames line line' pc' (value_of exit) stack s' (k (value_of exit) (record s' { slots = s.slots })) hr
-              (r (value_of exit) (record s' { slots = s.slots }) (omega (arith, le, is))))))
+        let inner : State = record s { turns = left; slots = slots_of f.slots args } in
+        let fr : Frame = record { pc = pc + 1; slots = s.slots; line = ln } in
+        goes code here (at st'.0.start stack (fr ∷ frames) line (slots_of f.slots args) left) (i.Call number count line) s.answers _ refl h
+        (st ∙ ap (λ b. cond b (entered here line left (arguments_on count (pushed args stack)) (drop count (pushed args stack)) (slice_get code.entries number)) (breaks fault_of.Depth line)) shallow
+        ∙ ap (entered here line left (arguments_on count (pushed args stack)) (drop count (pushed args stack))) (ap (λ l. slice_get l number) entries ∙ st'.1)
+        ∙ ap (λ given. entered here line left given (drop count (pushed args stack)) (Some st'.0)) (taken count args stack n)
+        ∙ ap (λ rest. entered here line left args rest (Some st'.0)) (dropped count args stack n)
+        ∙ ap (λ slots. Moves (at st'.0.start stack (fr ∷ frames) line (slots_of slots args) left)) st'.2)
+        (function_ok code (fr ∷ frames) line calls (calls_ok' fr line) f st'.0.start stack inner (λ exit s''. k (value_of exit) (record s'' { slots = s.slots })) st'.3
+        (λ exit line' pc' s' le hr lines.
+        return_to code fr frames line line' pc' (value_of exit) stack s' (k (value_of exit) (record s' { slots = s.slots })) hr
+        (r (value_of exit) (record s' { slots = s.slots }) (omega (arith, le, is))))))
 
   -- what a call's instruction does, where calls may go so much deeper
   calls_ok : (d : ℕ) (frames : List Frame) (ln : ℕ) → d + length frames + 1 ≡ 1024 → CallsDo code (calls_of fs d) frames ln
-  calls_ok zero frames ln deep = record { call = λ number count line pc args stack s k h n r.
-      let over' : nat_lt (length frames + 1) 1024 ≡ false = le-ltb (length frames + 1) 1024 (omega (arith, deep)) in
-      too_deep frames ln number count line pc args stack s h k over' }
-  calls_ok (suc d) frames ln deep = record { call = λ number count line pc args stack s k h n r.
-      let under : nat_lt (length frames + 1) 1024 ≡ true = lt-ltb (length frames + 1) 1024 (omega (arith, deep)) in
-      enter_ok frames ln number count line pc args stack s h (calls_of fs d) (λ fr l. calls_ok d (fr ∷ frames) l (omega (arith, deep))) k under n r (slice_get fs number) refl }
+  calls_ok zero frames ln deep = record {
+    call = λ number count line pc args stack s k h n r.
+        let over' : nat_lt (length frames + 1) 1024 ≡ false = le-ltb (length frames + 1) 1024 (omega (arith, deep)) in
+        too_deep frames ln number count line pc args stack s h k over';
+  }
+  calls_ok (suc d) frames ln deep = record {
+    call = λ number count line pc args stack s k h n r.
+        let under : nat_lt (length frames + 1) 1024 ≡ true = lt-ltb (length frames + 1) 1024 (omega (arith, deep)) in
+        enter_ok frames ln number count line pc args stack s h (calls_of fs d) (λ fr l. calls_ok d (fr ∷ frames) l (omega (arith, deep))) k under n r (slice_get fs number) refl;
+  }
 
 -- the whole code stands at its beginning
 has_all : (code : Code) (is before : List Instr) → code.instrs ≡ before ++ is → HasAt code (length before) is
@@ -246,10 +251,13 @@ behaves program answers entry e = by_main (slice_get program.functions program.m
   where
     code : Code
     code = compiled program
+
     fs : List p.Function
     fs = program.functions
+
     all : HasAt code 0 (functions_code fs)
     all = has_all code (functions_code fs) [] refl
+
     by_main : (o : Option p.Function) → slice_get fs program.main ≡ o → Reaches code (begins code entry 10000000) answers (next_in fs o 1023 10000000 answers)
     by_main None none = absurd (let no_entry = absent fs 0 program.main none in cc (no_entry, e))
     by_main (Some f) some =
@@ -258,9 +266,9 @@ behaves program answers entry e = by_main (slice_get program.functions program.m
         let s : State = record { slots = slots_of f.slots (arguments_of_main f.params); turns = 10000000; answers = answers } in
         let k : Exit → State → Next = λ exit s'. finish_main f exit (record s' { slots = [] }) in
         let runs : Runs code [] 0 st.0.start [] s (with_params 0 f.end_line 0 f.params (run_body (calls_of fs 1023) f.ending f.end_line f.body) k s) =
-          function_ok code [] 0 (calls_of fs 1023) (calls_ok code fs refl all 1023 [] 0 refl) f st.0.start [] s k st.3
-          (λ exit line pc s' le hr lines. main_ends code 0 line pc f exit [] s' [] hr lines) in
+        function_ok code [] 0 (calls_of fs 1023) (calls_ok code fs refl all 1023 [] 0 refl) f st.0.start [] s k st.3
+        (λ exit line pc s' le hr lines. main_ends code 0 line pc f exit [] s' [] hr lines) in
         let slots : slots_of st.0.slots (main_arguments (params_of (slice_get fs program.main))) ≡ slots_of f.slots (arguments_of_main f.params) =
-          ap (λ n. slots_of n (main_arguments (params_of (slice_get fs program.main)))) st.2 ∙ ap (λ o. slots_of f.slots (main_arguments (params_of o))) some ∙ ap (slots_of f.slots) (main_is f.params) in
+        ap (λ n. slots_of n (main_arguments (params_of (slice_get fs program.main)))) st.2 ∙ ap (λ o. slots_of f.slots (main_arguments (params_of o))) some ∙ ap (slots_of f.slots) (main_is f.params) in
         subst (λ z. Reaches code (begins code z 10000000) answers (next_in fs (Some f) 1023 10000000 answers)) same
         (subst (λ given. Reaches code (at st.0.start [] [] 0 given 10000000) answers (next_in fs (Some f) 1023 10000000 answers)) (sym slots) runs)

@@ -74,13 +74,13 @@ module _ (code : Code) (frames : List Frame) (ln : ℕ) where
       ways left ln2 lb2 = record {
         next = λ s2 l2. stepped left s2 ln2 lb2 l2;
         breaks = λ line' q m h d s2 l2.
-          skip_ok code frames ln q m stack s2 (k Normal s2) h.0
-          (let e : pc + length (loop_code line t st b) ≡ q + 1 + m = omega (arith, d, loop_end) in
-           moved_to code _ _ stack frames ln s2 _ e (x.next s2 (omega (arith, lb2, l2))));
+            skip_ok code frames ln q m stack s2 (k Normal s2) h.0
+            (let e : pc + length (loop_code line t st b) ≡ q + 1 + m = omega (arith, d, loop_end) in
+            moved_to code _ _ stack frames ln s2 _ e (x.next s2 (omega (arith, lb2, l2))));
         continues = λ line' q m h d s2 l2.
-          skip_ok code frames ln q m stack s2 (ms (λ v s'. loop mt mb ms line n k s') s2) h.0
-          (let e : at_body + length b ≡ q + 1 + m = omega (arith, d) in
-           moved_to code _ _ stack frames ln s2 _ e (stepped left s2 ln2 lb2 l2));
+            skip_ok code frames ln q m stack s2 (ms (λ v s'. loop mt mb ms line n k s') s2) h.0
+            (let e : at_body + length b ≡ q + 1 + m = omega (arith, d) in
+            moved_to code _ _ stack frames ln s2 _ e (stepped left s2 ln2 lb2 l2));
         returns = λ line' q h w s2 l2. x.returns line' q h w s2 (omega (arith, lb2, l2));
       }
 
@@ -141,13 +141,13 @@ module _ (code : Code) (frames : List Frame) (ln : ℕ) where
       do_ways left ln2 lb2 = record {
         next = λ s2 l2. do_stepped left s2 ln2 lb2 l2;
         breaks = λ line' q m h d s2 l2.
-          skip_ok code frames ln q m stack s2 (k Normal s2) h.0
-          (let e : pc + length (do_code line t b) ≡ q + 1 + m = omega (arith, d, do_end) in
-           moved_to code _ _ stack frames ln s2 _ e (x.next s2 (omega (arith, lb2, l2))));
+            skip_ok code frames ln q m stack s2 (k Normal s2) h.0
+            (let e : pc + length (do_code line t b) ≡ q + 1 + m = omega (arith, d, do_end) in
+            moved_to code _ _ stack frames ln s2 _ e (x.next s2 (omega (arith, lb2, l2))));
         continues = λ line' q m h d s2 l2.
-          skip_ok code frames ln q m stack s2 (mt (λ w s'. if_holds w (do_loop mt mb line n) (pure Normal) k s') s2) h.0
-          (let e : pc + 1 + length b ≡ q + 1 + m = omega (arith, d) in
-           moved_to code _ _ stack frames ln s2 _ e (do_stepped left s2 ln2 lb2 l2));
+            skip_ok code frames ln q m stack s2 (mt (λ w s'. if_holds w (do_loop mt mb line n) (pure Normal) k s') s2) h.0
+            (let e : pc + 1 + length b ≡ q + 1 + m = omega (arith, d) in
+            moved_to code _ _ stack frames ln s2 _ e (do_stepped left s2 ln2 lb2 l2));
         returns = λ line' q h w s2 l2. x.returns line' q h w s2 (omega (arith, lb2, l2));
       }
 
@@ -195,28 +195,32 @@ module _ (code : Code) (frames : List Frame) (ln : ℕ) where
       goes_by way.Run = refl
       goes_by way.Hold = refl
       goes_by way.Skip = refl
+
       size : pc + length (single_code line construct c) ≡ pc + 4 + length c + 1
       size = omega (arith, length-append c (i.HlsExit construct line ∷ []))
+
       skipped : (s1 : State) → s1.turns ≤ s.turns → Runs code frames ln (pc + 1 + 1 + 1) stack s1 (k Normal s1)
       skipped s1 l1 =
           skip_ok code frames ln (pc + 1 + 1 + 1) (length c + 1) stack s1 (k Normal s1) has.1.1.1.0
           (let e : pc + length (single_code line construct c) ≡ pc + 1 + 1 + 1 + 1 + (length c + 1) = omega (arith, size) in
-           moved_to code _ _ stack frames ln s1 _ e (x.next s1 l1))
+          moved_to code _ _ stack frames ln s1 _ e (x.next s1 l1))
+
       k' : Exit → State → Next
       k' e s' = then e (ask (call.HlsExit construct) line >>= (λ a. pure Normal)) k s'
+
       by_way : (w : Way) (s1 : State) → s1.turns ≤ s.turns → Runs code frames ln (way_place pc w) stack s1 (in_way w line construct m k s1)
       by_way way.Run s1 l1 =
           skip_ok code frames ln (pc + 1) 2 stack s1 _ has.1.0
           (let e : pc + 1 + 1 + 1 + 1 ≡ pc + 1 + 1 + 2 = omega arith in
-           moved_to code _ _ stack frames ln s1 _ e
-           (g (pc + 1 + 1 + 1 + 1) stack s1 k' (has_front code (pc + 1 + 1 + 1 + 1) c _ has.1.1.1.1) (record {
-             next = λ s2 l2. exit_ok code frames ln construct line (pc + 1 + 1 + 1 + 1 + length c) stack s2 (λ a s'. k Normal s') (has_back code (pc + 1 + 1 + 1 + 1) c _ has.1.1.1.1).0
-               (λ a s3 l3. let e2 : pc + length (single_code line construct c) ≡ pc + 1 + 1 + 1 + 1 + length c + 1 = omega (arith, size) in
-                 moved_to code _ _ stack frames ln s3 _ e2 (x.next s3 (omega (arith, l1, l2, l3))));
-             breaks = λ line' q n h d s2 l2. x.breaks line' q n h (omega (arith, d, size)) s2 (omega (arith, l1, l2));
-             continues = λ line' q n h d s2 l2. x.continues line' q n h (omega (arith, d, size)) s2 (omega (arith, l1, l2));
-             returns = λ line' q h w s2 l2. x.returns line' q h w s2 (omega (arith, l1, l2));
-           })))
+          moved_to code _ _ stack frames ln s1 _ e
+          (g (pc + 1 + 1 + 1 + 1) stack s1 k' (has_front code (pc + 1 + 1 + 1 + 1) c _ has.1.1.1.1) (record {
+            next = λ s2 l2. exit_ok code frames ln construct line (pc + 1 + 1 + 1 + 1 + length c) stack s2 (λ a s'. k Normal s') (has_back code (pc + 1 + 1 + 1 + 1) c _ has.1.1.1.1).0
+                (λ a s3 l3. let e2 : pc + length (single_code line construct c) ≡ pc + 1 + 1 + 1 + 1 + length c + 1 = omega (arith, size) in
+                moved_to code _ _ stack frames ln s3 _ e2 (x.next s3 (omega (arith, l1, l2, l3))));
+            breaks = λ line' q n h d s2 l2. x.breaks line' q n h (omega (arith, d, size)) s2 (omega (arith, l1, l2));
+            continues = λ line' q n h d s2 l2. x.continues line' q n h (omega (arith, d, size)) s2 (omega (arith, l1, l2));
+            returns = λ line' q h w s2 l2. x.returns line' q h w s2 (omega (arith, l1, l2));
+          })))
       by_way way.Hold s1 l1 =
           let e : pc + 1 + 1 ≡ pc + 2 = omega arith in
           moved_to code _ _ stack frames ln s1 _ e
@@ -229,7 +233,7 @@ module _ (code : Code) (frames : List Frame) (ln : ℕ) where
   barrier_ok place line construct pc stack s k has x =
       let e : pc + 2 ≡ pc + 1 + 1 = omega arith in
       bar_ok code frames ln construct line pc stack s _ has.0 (λ a s1 l1.
-        bar_wait_ok code frames ln construct line (pc + 1) stack s1 (λ b s'. k Normal s') has.1.0 (λ b s2 l2. moved_to code _ _ stack frames ln s2 _ e (x.next s2 (omega (arith, l1, l2)))))
+      bar_wait_ok code frames ln construct line (pc + 1) stack s1 (λ b s'. k Normal s') has.1.0 (λ b s2 l2. moved_to code _ _ stack frames ln s2 _ e (x.next s2 (omega (arith, l1, l2)))))
 
   -- ---- whole statements
 

@@ -54,8 +54,8 @@ module _ (code : Code) (frames : List Frame) (ln : ℕ) where
   one_ok front c m instr f g u pc stack s k has r =
       let len : pc + length (c ++ instr ∷ []) ≡ pc + length c + 1 = omega (arith, length-append c (instr ∷ [])) in
       g pc stack s (λ v s'. f v k s') (has_front code pc c _ has) (λ v s1 le1.
-        u (pc + length c) v (front ++ stack) s1 k (has_back code pc c _ has).0 (λ w s2 le2.
-          moved_to code _ _ (w ∷ (front ++ stack)) frames ln s2 _ len (r w s2 (omega (arith, le1, le2)))))
+      u (pc + length c) v (front ++ stack) s1 k (has_back code pc c _ has).0 (λ w s2 le2.
+      moved_to code _ _ (w ∷ (front ++ stack)) frames ln s2 _ len (r w s2 (omega (arith, le1, le2)))))
 
   pub two_ok : (front : List Word) (a b : List Instr) (ma : Step Word) (mb : Word → Step Word) (instr : Instr) (g : Word → Word → Step Word) → GivesFrom front a ma → ((x : Word) → GivesFrom (x ∷ []) b (mb x)) → Binary instr g
       → GivesFrom front (a ++ (b ++ instr ∷ [])) (ma >>= (λ x. mb x >>= (λ y. g x y)))
@@ -63,9 +63,9 @@ module _ (code : Code) (frames : List Frame) (ln : ℕ) where
       let len : pc + length (a ++ (b ++ instr ∷ [])) ≡ pc + length a + length b + 1 = omega (arith, length-append a (b ++ instr ∷ []), length-append b (instr ∷ [])) in
       let h = has_back code pc a _ has in
       ga pc stack s (λ x s'. mb x (λ y s''. g x y k s'') s') (has_front code pc a _ has) (λ x s1 le1.
-        gb x (pc + length a) (front ++ stack) s1 (λ y s'. g x y k s') (has_front code _ b _ h) (λ y s2 le2.
-          bin (pc + length a + length b) x y (front ++ stack) s2 k (has_back code _ b _ h).0 (λ w s3 le3.
-            moved_to code _ _ (w ∷ (front ++ stack)) frames ln s3 _ len (r w s3 (omega (arith, le1, le2, le3))))))
+      gb x (pc + length a) (front ++ stack) s1 (λ y s'. g x y k s') (has_front code _ b _ h) (λ y s2 le2.
+      bin (pc + length a + length b) x y (front ++ stack) s2 k (has_back code _ b _ h).0 (λ w s3 le3.
+      moved_to code _ _ (w ∷ (front ++ stack)) frames ln s3 _ len (r w s3 (omega (arith, le1, le2, le3))))))
 
   -- ---- instructions that put a word on the stack
 

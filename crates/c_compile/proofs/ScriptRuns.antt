@@ -73,7 +73,7 @@ module _ (code : Code) (frames : List Frame) (ln pc : ℕ) (stack : List Word) (
   each_ok (suc more) index s found k r =
       steps_ok s (Requests (suc more)) (each_of mpi.function) index found (λ found' s'. take_each mpi arguments line (each_of mpi.function) (index + 1) (suc more) found' k s')
       (λ found' answers. goes_on code (within s (Requests (suc more)) [] index found') (within s (Requests more) (each_of mpi.function) (index + 1) found') answers _ refl
-        (each_ok more (index + 1) (record s { answers = answers }) found' k r))
+      (each_ok more (index + 1) (record s { answers = answers }) found' k r))
 
   requests_ok : (s : State) (found : Found) (k : Found → State → Next)
       → ((found' : Found) (answers : List Answer) → Reads s Last (last_of mpi.function) 0 found' answers (k found' (record s { answers = answers })))
@@ -83,10 +83,13 @@ module _ (code : Code) (frames : List Frame) (ln pc : ℕ) (stack : List Word) (
     where
       sc : Scripting
       sc = record { mpi = mpi; arguments = arguments; line = line; phase = First; steps = []; index = 0; found = found }
+
       m : Mach
       m = within s First [] 0 found
+
       opens : (each : List ScriptStep) (count : ℤ) → each_of mpi.function ≡ each → number_at arguments 0 ≡ count → step code m m.script ≡ behind_first m sc each count
       opens each count ee ec = ap (λ l. behind_first m sc l (number_at arguments 0)) ee ∙ ap (behind_first m sc each) ec
+
       by_count : (each : List ScriptStep) (count : ℤ) → each_of mpi.function ≡ each → number_at arguments 0 ≡ count → Reads s First [] 0 found s.answers (take_requests mpi arguments line each count found k s)
       by_count [] count ee ec = goes_on code m (within s Last (last_of mpi.function) 0 found) s.answers _ (opens [] count ee ec) (r found s.answers)
       by_count (t ∷ rest) (pos zero) ee ec = goes_on code m (within s Last (last_of mpi.function) 0 found) s.answers _ (opens (t ∷ rest) (pos zero) ee ec) (r found s.answers)
@@ -101,10 +104,10 @@ module _ (code : Code) (frames : List Frame) (ln pc : ℕ) (stack : List Word) (
       → Reads s First (steps_of mpi.function) 0 nothing_found s.answers (asks_of mpi arguments line k s)
   script_ok s k r =
       steps_ok s First (steps_of mpi.function) 0 nothing_found _ (λ found answers.
-        requests_ok (record s { answers = answers }) found (λ found' s'. take_steps mpi arguments line 0 (last_of mpi.function) found' k s') (λ found' answers'.
-          steps_ok (record s { answers = answers' }) Last (last_of mpi.function) 0 found' k (λ found'' answers''.
-            goes_on code (within s Last [] 0 found'') (at (pc + 1) (Int (pos 0) ∷ stack) frames ln s.slots s.turns) answers'' _ refl (r found'' answers'')))
-        (each_of mpi.function) (number_at arguments 0) refl refl)
+      requests_ok (record s { answers = answers }) found (λ found' s'. take_steps mpi arguments line 0 (last_of mpi.function) found' k s') (λ found' answers'.
+      steps_ok (record s { answers = answers' }) Last (last_of mpi.function) 0 found' k (λ found'' answers''.
+      goes_on code (within s Last [] 0 found'') (at (pc + 1) (Int (pos 0) ∷ stack) frames ln s.slots s.turns) answers'' _ refl (r found'' answers'')))
+      (each_of mpi.function) (number_at arguments 0) refl refl)
 
 -- An MPI function's instruction asks what the function asks of the words that were put on the stack.
 pub mpi_ok : (code : Code) (frames : List Frame) (ln pc : ℕ) (mpi : MpiCall) (count line : ℕ) (args stack : List Word) (s : State) (k : Word → State → Next) → slice_get code.instrs pc ≡ Some (i.Mpi mpi count line) → length args ≡ count

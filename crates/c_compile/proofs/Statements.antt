@@ -35,9 +35,9 @@ module _ (code : Code) (frames : List Frame) (ln : ℕ) where
   pub record Exits (place : Place) (q : ℕ) (stack : List Word) (t : ℕ) (k : Exit → State → Next) : Type 0 where
     pub next : (s : State) → s.turns ≤ t → Goes' q stack s (k Normal s)
     pub breaks : (line pc n : ℕ) → Has pc (drops line place.in_loop ++ i.Skip n ∷ []) → pc + length (drops line place.in_loop) + 1 + n ≡ q + place.exit
-      → (s : State) → s.turns ≤ t → Goes' pc stack s (k (Broken line) s)
+        → (s : State) → s.turns ≤ t → Goes' pc stack s (k (Broken line) s)
     pub continues : (line pc n : ℕ) → Has pc (drops line place.in_loop ++ i.Skip n ∷ []) → pc + length (drops line place.in_loop) + 1 + n ≡ q + place.again
-      → (s : State) → s.turns ≤ t → Goes' pc stack s (k (Continued line) s)
+        → (s : State) → s.turns ≤ t → Goes' pc stack s (k (Continued line) s)
     pub returns : (line pc : ℕ) → Has pc (drops line place.in_function ++ i.Return line ∷ []) → (w : Word) (s : State) → s.turns ≤ t → Goes' pc (w ∷ stack) s (k (Returned line w) s)
 
   -- The code does what a step of statements does.
@@ -64,7 +64,7 @@ module _ (code : Code) (frames : List Frame) (ln : ℕ) where
   pop_behind c m g pc stack s k has r =
       let len : pc + length (c ++ i.Pop ∷ []) ≡ pc + length c + 1 = omega (arith, length-append c (i.Pop ∷ [])) in
       g pc stack s k (has_front code pc c _ has) (λ v s1 le1.
-        pop_ok code frames ln (pc + length c) v stack s1 (k v s1) (has_back code pc c _ has).0 (moved_to code _ _ stack frames ln s1 _ len (r v s1 le1)))
+      pop_ok code frames ln (pc + length c) v stack s1 (k v s1) (has_back code pc c _ has).0 (moved_to code _ _ stack frames ln s1 _ len (r v s1 le1)))
 
   pub eval_ok : (place : Place) (c : List Instr) (m : Step Word) → GivesHere c m → Does place (c ++ i.Pop ∷ []) (m >>= (λ v. pure Normal))
   eval_ok place c m g pc stack s k has x = pop_behind c m g pc stack s (λ v s'. k Normal s') has (λ v s1 le1. x.next s1 le1)
@@ -99,7 +99,7 @@ module _ (code : Code) (frames : List Frame) (ln : ℕ) where
   block_ok place line slot words end c m g pc stack s k has x =
       let far : pc + length (i.New slot words line ∷ (c ++ i.Release slot end ∷ [])) ≡ pc + 1 + length (c ++ i.Release slot end ∷ []) = omega arith in
       make_ok code frames ln line slot words pc stack s _ has.0 (λ w s1 le1.
-        dropped_ok place slot end c m g (pc + 1) stack s1 k has.1 (subst (λ q. Exits place q stack s1.turns k) far (fewer place _ stack _ _ k le1 x)))
+      dropped_ok place slot end c m g (pc + 1) stack s1 k has.1 (subst (λ q. Exits place q stack s1.turns k) far (fewer place _ stack _ _ k le1 x)))
 
   -- one of two statements
   pub if_ok : (place : Place) (c a b : List Instr) (mc : Step Word) (ma mb : Step Exit) → GivesHere c mc → Does (before (suc (length b)) place) a ma → Does place b mb → Does place (if_code c a b) (mc >>= (λ w. if_holds w ma mb))
@@ -111,17 +111,17 @@ module _ (code : Code) (frames : List Frame) (ln : ℕ) where
       let len : pc + length (if_code c a b) ≡ q + length b = omega (arith, length-append c (i.Unless (length a + 1) ∷ (a ++ (i.Skip (length b) ∷ b))), length-append a (i.Skip (length b) ∷ b)) in
       let far : (n : ℕ) → pc + length (if_code c a b) + n ≡ p' + length a + (suc (length b) + n) = λ n. omega (arith, len) in
       gc pc stack s (λ w s'. if_holds w ma mb k s') (has_front code pc c _ has) (λ w s1 le1.
-        unless_ok code frames ln (pc + length c) (length a + 1) w stack s1 ma mb k h.0
-        (ga p' stack s1 k (has_front code p' a _ h.1) (record {
-          next = λ s2 l2. skip_ok code frames ln (p' + length a) (length b) stack s2 (k Normal s2) ha.0 (moved_to code _ _ stack frames ln s2 _ len (x.next s2 (omega (arith, le1, l2))));
-          breaks = λ line p'' n hd d s2 l2. x.breaks line p'' n hd (d ∙ sym (far place.exit)) s2 (omega (arith, le1, l2));
-          continues = λ line p'' n hd d s2 l2. x.continues line p'' n hd (d ∙ sym (far place.again)) s2 (omega (arith, le1, l2));
-          returns = λ line p'' hd w' s2 l2. x.returns line p'' hd w' s2 (omega (arith, le1, l2));
-        }))
-        (let e : q ≡ p' + (length a + 1) = omega arith in
-         moved_to code _ _ stack frames ln s1 _ e
-         (gb q stack s1 k ha.1 (subst (λ z. Exits place z stack s1.turns k) len (fewer place _ stack _ _ k le1 x))))
-        (holds w) refl)
+      unless_ok code frames ln (pc + length c) (length a + 1) w stack s1 ma mb k h.0
+      (ga p' stack s1 k (has_front code p' a _ h.1) (record {
+        next = λ s2 l2. skip_ok code frames ln (p' + length a) (length b) stack s2 (k Normal s2) ha.0 (moved_to code _ _ stack frames ln s2 _ len (x.next s2 (omega (arith, le1, l2))));
+        breaks = λ line p'' n hd d s2 l2. x.breaks line p'' n hd (d ∙ sym (far place.exit)) s2 (omega (arith, le1, l2));
+        continues = λ line p'' n hd d s2 l2. x.continues line p'' n hd (d ∙ sym (far place.again)) s2 (omega (arith, le1, l2));
+        returns = λ line p'' hd w' s2 l2. x.returns line p'' hd w' s2 (omega (arith, le1, l2));
+      }))
+      (let e : q ≡ p' + (length a + 1) = omega arith in
+      moved_to code _ _ stack frames ln s1 _ e
+      (gb q stack s1 k ha.1 (subst (λ z. Exits place z stack s1.turns k) len (fewer place _ stack _ _ k le1 x))))
+      (holds w) refl)
 
   pub break_ok : (place : Place) (line : ℕ) → Does place (drops line place.in_loop ++ i.Skip place.exit ∷ []) (pure (Broken line))
   break_ok place line pc stack s k has x =

@@ -73,10 +73,12 @@ module _ (code : Code) where
       → Reaches code m s.answers (ask c line k s)
   asks_ok m i c line s m' k none h st goes_on' res r =
       asks_on m c line s k (ap (step code m) none ∙ ap (fetched code m) h ∙ st)
-      (λ a more. let here = r a more in (here.steps,
+      (λ a more. let here = r a more in (
+        here.steps,
         ap (λ b. behind (exec code here.steps) b (resume code m a m.script) more) goes_on'
-        ∙ ap (λ b. behind (exec code here.steps) false b more) (ap (resume code m a) none ∙ ap (fetched_resume m a) h ∙ res a)
-        ∙ here.ends))
+            ∙ ap (λ b. behind (exec code here.steps) false b more) (ap (resume code m a) none ∙ ap (fetched_resume m a) h ∙ res a)
+            ∙ here.ends,
+      ))
 
   broke_ok : (f : Fault) (line : ℕ) (go : Answer → List Answer → Option Next) (answers : List Answer) → demanded (call.Broke f) line go answers ≡ Some (asked (call.Broke f) line (λ a more. Misfit) answers)
   broke_ok f line go [] = refl

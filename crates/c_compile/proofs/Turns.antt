@@ -25,6 +25,7 @@ module _ (code : Code) (frames : List Frame) (ln : ℕ) where
     where
       m : Mach
       m = at pc stack frames ln s.slots s.turns
+
       by_turns : (t : ℕ) → s.turns ≡ t → Runs code frames ln pc stack s (tick_from t line k s)
       by_turns zero e = faults code m (i.Tick line) Turns line s k refl h (ap (λ t. turned m line t (λ left. Moves (record m { pc = pc + 1; turns = left }))) e)
       by_turns (suc left) e =
@@ -38,10 +39,13 @@ module _ (code : Code) (frames : List Frame) (ln : ℕ) where
     where
       m : Mach
       m = at pc (v ∷ stack) frames ln s.slots s.turns
+
       jump : ℕ → Stepped
       jump t = turned m line t (λ left. Moves (record m { pc = pc - n; stack = stack; turns = left }))
+
       opens : (t : ℕ) → s.turns ≡ t → cond (holds v) (jump s.turns) (next m stack) ≡ jump t
       opens t e = ap (λ b. cond b (jump s.turns) (next m stack)) so ∙ ap jump e
+
       by_turns : (t : ℕ) → s.turns ≡ t → Runs code frames ln pc (v ∷ stack) s (tick_from t line k s)
       by_turns zero e = faults code m (i.Again n line) Turns line s k refl h (opens zero e)
       by_turns (suc left) e =
