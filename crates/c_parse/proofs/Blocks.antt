@@ -50,52 +50,52 @@ within_self xs = within_when xs xs (λ n h. h)
 
 -- where the first may be continued by nothing
 pub token_then : {A B : Type 0} {p : Phrase A} {k : A → Phrase B} {r : Reader A} {l : A → Reader B} {sp sk : List ℕ} {gk : B → List ℕ} {nk : Bool}
-  → Exact p r sp (λ _. []) true → ((a : A) → Exact (k a) (l a) sk gk nk) → Exact (ph.◌>>=◌ p k) (r >>= l) sp gk true
+    → Exact p r sp (λ _. []) true → ((a : A) → Exact (k a) (l a) sk gk nk) → Exact (ph.◌>>=◌ p k) (r >>= l) sp gk true
 token_then {p = p} {k = k} {r = r} {l = l} {sp = sp} {sk = sk} {gk = gk} {nk = nk} ep ek =
     bind_exact p k r l sp (λ _. []) true sk (λ _. gk) nk sp gk true ep ek (within_self sp) (λ e. cc) (λ _. inl refl) (λ a c ts f. refl) (λ a b ts h. within_self (gk b)) (λ a b h. refl)
 
 -- where the second takes a symbol, with which the first does not go on
 pub seq : {A B : Type 0} {p : Phrase A} {k : A → Phrase B} {r : Reader A} {l : A → Reader B} {sp gp sk : List ℕ} {gk : B → List ℕ}
-  → Exact p r sp (λ _. gp) true → ((a : A) → Exact (k a) (l a) sk gk true) → apart sk gp ≡ true → Exact (ph.◌>>=◌ p k) (r >>= l) sp gk true
+    → Exact p r sp (λ _. gp) true → ((a : A) → Exact (k a) (l a) sk gk true) → apart sk gp ≡ true → Exact (ph.◌>>=◌ p k) (r >>= l) sp gk true
 seq {p = p} {k = k} {r = r} {l = l} {sp = sp} {gp = gp} {sk = sk} {gk = gk} ep ek h =
     bind_exact p k r l sp (λ _. gp) true sk (λ _. gk) true sp gk true ep ek (within_self sp) (λ e. cc) (λ _. inl refl)
-      (λ a c ts f. apart_no sk gp (code c.class) h ((ek a).first c ts f)) (λ a b ts h. within_self (gk b)) (λ a b h. absurd ((ek a).fills refl b h))
+    (λ a c ts f. apart_no sk gp (code c.class) h ((ek a).first c ts f)) (λ a b ts h. within_self (gk b)) (λ a b h. absurd ((ek a).fills refl b h))
 
 -- where the first may be empty
 pub maybe_seq : {A B : Type 0} {p : Phrase A} {k : A → Phrase B} {r : Reader A} {l : A → Reader B} {sp gp sk : List ℕ} {gk : B → List ℕ}
-  → Exact p r sp (λ _. gp) false → ((a : A) → Exact (k a) (l a) sk gk true) → apart sk gp ≡ true → Exact (ph.◌>>=◌ p k) (r >>= l) (sp ++ sk) gk true
+    → Exact p r sp (λ _. gp) false → ((a : A) → Exact (k a) (l a) sk gk true) → apart sk gp ≡ true → Exact (ph.◌>>=◌ p k) (r >>= l) (sp ++ sk) gk true
 maybe_seq {p = p} {k = k} {r = r} {l = l} {sp = sp} {gp = gp} {sk = sk} {gk = gk} ep ek h =
     bind_exact p k r l sp (λ _. gp) false sk (λ _. gk) true (sp ++ sk) gk true ep ek
-      (within_when sp (sp ++ sk) (λ n h. in_left sp sk n h)) (λ e. within_when sk (sp ++ sk) (λ n h. in_right sp sk n h)) (λ _. inr refl)
-      (λ a c ts f. apart_no sk gp (code c.class) h ((ek a).first c ts f)) (λ a b ts h. within_self (gk b)) (λ a b h. absurd ((ek a).fills refl b h))
+    (within_when sp (sp ++ sk) (λ n h. in_left sp sk n h)) (λ e. within_when sk (sp ++ sk) (λ n h. in_right sp sk n h)) (λ _. inr refl)
+    (λ a c ts f. apart_no sk gp (code c.class) h ((ek a).first c ts f)) (λ a b ts h. within_self (gk b)) (λ a b h. absurd ((ek a).fills refl b h))
 
 -- where the second may be empty
 pub seq_maybe : {A B : Type 0} {p : Phrase A} {k : A → Phrase B} {r : Reader A} {l : A → Reader B} {sp gp sk gk : List ℕ}
-  → Exact p r sp (λ _. gp) true → ((a : A) → Exact (k a) (l a) sk (λ _. gk) false) → apart sk gp ≡ true → Exact (ph.◌>>=◌ p k) (r >>= l) sp (λ _. gk ++ gp) true
+    → Exact p r sp (λ _. gp) true → ((a : A) → Exact (k a) (l a) sk (λ _. gk) false) → apart sk gp ≡ true → Exact (ph.◌>>=◌ p k) (r >>= l) sp (λ _. gk ++ gp) true
 seq_maybe {p = p} {k = k} {r = r} {l = l} {sp = sp} {gp = gp} {sk = sk} {gk = gk} ep ek h =
     bind_exact p k r l sp (λ _. gp) true sk (λ _ _. gk) false sp (λ _. gk ++ gp) true ep ek (within_self sp) (λ e. cc) (λ _. inl refl)
-      (λ a c ts f. apart_no sk gp (code c.class) h ((ek a).first c ts f))
-      (λ a b ts h. within_when gk (gk ++ gp) (λ n h. in_left gk gp n h)) (λ a b h. within_when gp (gk ++ gp) (λ n h. in_right gk gp n h))
+    (λ a c ts f. apart_no sk gp (code c.class) h ((ek a).first c ts f))
+    (λ a b ts h. within_when gk (gk ++ gp) (λ n h. in_left gk gp n h)) (λ a b h. within_when gp (gk ++ gp) (λ n h. in_right gk gp n h))
 
 -- where both may be empty
 pub maybe_both : {A B : Type 0} {p : Phrase A} {k : A → Phrase B} {r : Reader A} {l : A → Reader B} {sp gp sk gk : List ℕ}
-  → Exact p r sp (λ _. gp) false → ((a : A) → Exact (k a) (l a) sk (λ _. gk) false) → apart sk gp ≡ true → Exact (ph.◌>>=◌ p k) (r >>= l) (sp ++ sk) (λ _. gk ++ gp) false
+    → Exact p r sp (λ _. gp) false → ((a : A) → Exact (k a) (l a) sk (λ _. gk) false) → apart sk gp ≡ true → Exact (ph.◌>>=◌ p k) (r >>= l) (sp ++ sk) (λ _. gk ++ gp) false
 maybe_both {p = p} {k = k} {r = r} {l = l} {sp = sp} {gp = gp} {sk = sk} {gk = gk} ep ek h =
     bind_exact p k r l sp (λ _. gp) false sk (λ _ _. gk) false (sp ++ sk) (λ _. gk ++ gp) false ep ek
-      (within_when sp (sp ++ sk) (λ n h. in_left sp sk n h)) (λ e. within_when sk (sp ++ sk) (λ n h. in_right sp sk n h)) (λ e. cc)
-      (λ a c ts f. apart_no sk gp (code c.class) h ((ek a).first c ts f))
-      (λ a b ts h. within_when gk (gk ++ gp) (λ n h. in_left gk gp n h)) (λ a b h. within_when gp (gk ++ gp) (λ n h. in_right gk gp n h))
+    (within_when sp (sp ++ sk) (λ n h. in_left sp sk n h)) (λ e. within_when sk (sp ++ sk) (λ n h. in_right sp sk n h)) (λ e. cc)
+    (λ a c ts f. apart_no sk gp (code c.class) h ((ek a).first c ts f))
+    (λ a b ts h. within_when gk (gk ++ gp) (λ n h. in_left gk gp n h)) (λ a b h. within_when gp (gk ++ gp) (λ n h. in_right gk gp n h))
 
 -- a value of what was spelt
 pub map_exact : {A B : Type 0} {p : Phrase A} {r : Reader A} {sp : List ℕ} {gp : A → List ℕ} {n : Bool} (f : A → B) (g : B → List ℕ)
-  → Exact p r sp gp n → ((a : A) → within (gp a) (g (f a)) ≡ true) → Exact (ph.◌>>=◌ p (λ a. give (f a))) (r >>= (λ a. pure (f a))) sp g n
+    → Exact p r sp gp n → ((a : A) → within (gp a) (g (f a)) ≡ true) → Exact (ph.◌>>=◌ p (λ a. give (f a))) (r >>= (λ a. pure (f a))) sp g n
 map_exact {p = p} {r = r} {sp = sp} {gp = gp} {n = n} f g ep h =
     bind_exact p (λ a. give (f a)) r (λ a. pure (f a)) sp gp n [] (λ _ _. []) false sp g n ep (λ a. give_exact (f a)) (within_self sp) (λ e. refl) (λ e. inl e)
-      (λ a c ts f. cc) (λ a b ts h. refl) (λ a b k. subst (λ b. within (gp a) (g b) ≡ true) (sym k.1) (h a))
+    (λ a c ts f. cc) (λ a b ts h. refl) (λ a b k. subst (λ b. within (gp a) (g b) ≡ true) (sym k.1) (h a))
 
 -- the same where what may follow does not depend on the value
 pub map_same : {A B : Type 0} {p : Phrase A} {r : Reader A} {sp gp : List ℕ} {n : Bool} (f : A → B)
-  → Exact p r sp (λ _. gp) n → Exact (ph.◌>>=◌ p (λ a. give (f a))) (r >>= (λ a. pure (f a))) sp (λ _. gp) n
+    → Exact p r sp (λ _. gp) n → Exact (ph.◌>>=◌ p (λ a. give (f a))) (r >>= (λ a. pure (f a))) sp (λ _. gp) n
 map_same {gp = gp} f ep = map_exact f (λ _. gp) ep (λ a. within_self gp)
 
 -- ---- symbols
@@ -118,11 +118,11 @@ was_some (Some a) x e = refl
 
 -- one symbol whose class passes a test
 pub one_if_exact : {A : Type 0} (test : Class → Bool) (value : Sym → A) (set : List ℕ) → ((c : Class) → is_in set (code c) ≡ test c) → is_in set 6 ≡ false
-  → Exact (one_if test value) (take_one (λ s. if test s.class then Some (value s) else None)) set (λ _. []) true
+    → Exact (one_if test value) (take_one (λ s. if test s.class then Some (value s) else None)) set (λ _. []) true
 one_if_exact test value set same plain = one_exact _ set (λ s a e. same s.class ∙ was_test (test s.class) (value s) a e) plain
 
 pub one_as_exact : {A : Type 0} (meaning : Class → Option A) (set : List ℕ) → ((c : Class) → is_in set (code c) ≡ is_some (meaning c)) → is_in set 6 ≡ false
-  → Exact (one_as meaning) (take_one (λ s. meaning s.class)) set (λ _. []) true
+    → Exact (one_as meaning) (take_one (λ s. meaning s.class)) set (λ _. []) true
 one_as_exact meaning set same plain = one_exact _ set (λ s a e. same s.class ∙ was_some (meaning s.class) a e) plain
 
 no_refused : (m : Mark) → is_in (mark_code m ∷ []) 6 ≡ false
@@ -172,17 +172,17 @@ abbrev pub passing : (Class → Bool) → Phrase (Unit {0})
 passing test = one_if test (λ _. tt)
 
 pub branch_exact : {A : Type 0} {p q : Phrase A} {r t : Reader A} {sp sq : List ℕ} {gp gq : A → List ℕ} {np nq : Bool} (test : Class → Bool) (set : List ℕ) (g : A → List ℕ)
-  → ((c : Class) → is_in set (code c) ≡ test c) → is_in set 6 ≡ false → test class.Other ≡ false
-  → Exact p r sp gp np → Exact q t sq gq nq → apart sq set ≡ true
-  → ((a : A) → within (gp a) (g a) ≡ true) → ((a : A) → within (gq a) (g a) ≡ true) → (nq ≡ false → (a : A) → q.spells [] a → within set (g a) ≡ true)
-  → Exact ((ph.◌>>◌ (passing test) p) or q) (branch test r t) (set ++ sq) g nq
+    → ((c : Class) → is_in set (code c) ≡ test c) → is_in set 6 ≡ false → test class.Other ≡ false
+    → Exact p r sp gp np → Exact q t sq gq nq → apart sq set ≡ true
+    → ((a : A) → within (gp a) (g a) ≡ true) → ((a : A) → within (gq a) (g a) ≡ true) → (nq ≡ false → (a : A) → q.spells [] a → within set (g a) ≡ true)
+    → Exact ((ph.◌>>◌ (passing test) p) or q) (branch test r t) (set ++ sq) g nq
 branch_exact {A} {p} {q} {r} {t} {sp} {sq} {gp} {gq} {np} {nq} test set g same plain other ep eq parted goes_p goes_q goes_on =
     or_exact (ph.◌>>◌ (passing test) p) q (take_one read >>= (λ _. r)) t (branch test r t) set sq gp gq g nq
-      (token_then (one_if_exact test (λ _. tt) set same plain) (λ _. ep)) eq parted
-      (λ s ts e. if_yes (test s.class) (r ts) (t (s ∷ ts)) (sym (same s.class) ∙ e) ∙ sym (ap (λ b. and_then (taken (if b then Some tt else None) s ts) (λ _. r)) (sym (same s.class) ∙ e)))
-      (λ s ts e. if_no (test s.class) (r ts) (t (s ∷ ts)) (sym (same s.class) ∙ e))
-      (if_no (test class.Other) (r []) (t []) other)
-      goes_p goes_q goes_on
+    (token_then (one_if_exact test (λ _. tt) set same plain) (λ _. ep)) eq parted
+    (λ s ts e. if_yes (test s.class) (r ts) (t (s ∷ ts)) (sym (same s.class) ∙ e) ∙ sym (ap (λ b. and_then (taken (if b then Some tt else None) s ts) (λ _. r)) (sym (same s.class) ∙ e)))
+    (λ s ts e. if_no (test s.class) (r ts) (t (s ∷ ts)) (sym (same s.class) ∙ e))
+    (if_no (test class.Other) (r []) (t []) other)
+    goes_p goes_q goes_on
   where
     read : Sym → Option (Unit {0})
     read s = if test s.class then Some tt else None
@@ -200,7 +200,7 @@ flag_is false ts = refl
 
 -- whether the phrase stands there
 pub flag_exact : (test : Class → Bool) (set : List ℕ) → ((c : Class) → is_in set (code c) ≡ test c) → is_in set 6 ≡ false → test class.Other ≡ false
-  → Exact (flag (passing test)) (λ ts. Got (test (class_at ts)) (behind_if (test (class_at ts)) ts)) set (λ _. set) false
+    → Exact (flag (passing test)) (λ ts. Got (test (class_at ts)) (behind_if (test (class_at ts)) ts)) set (λ _. set) false
 flag_exact test set same plain other = widen set (λ _. set) (by_reader _ (branch_exact test set (λ _. set) same plain other (give_exact true) (give_exact false) refl (λ _. refl) (λ _. refl) (λ _ _ _. within_self set)) (λ ts. flag_is (test (class_at ts)) ts)) (within_when (set ++ []) set (λ n h. without n h)) (λ _. within_self set)
   where
     without : (n : ℕ) → is_in (set ++ []) n ≡ true → is_in set n ≡ true
@@ -230,10 +230,10 @@ pub repeat_is : {S : Type 0} (stops : List Sym → Bool) (step other : S → Rea
 unfolding repeat_from
 repeat_is stops step other h zero s ts = refl
 repeat_is stops step other h (suc n) s ts = elim (bool_is (stops ts)) [
-      inl e ↦ if_yes (stops ts) _ _ e ∙ sym (if_yes (stops ts) _ _ e)
-    | inr e ↦ if_no (stops ts) _ _ e ∙ (ap (λ o. and_then o (λ t rest. repeat_from stops step n t rest)) (h s ts e)
-        ∙ (then_same (other s ts) (λ t rest. repeat_is stops step other h n t rest) ∙ sym (if_no (stops ts) _ _ e)))
-    ]
+  | inl e ↦ if_yes (stops ts) _ _ e ∙ sym (if_yes (stops ts) _ _ e)
+  | inr e ↦ if_no (stops ts) _ _ e ∙ (ap (λ o. and_then o (λ t rest. repeat_from stops step n t rest)) (h s ts e)
+      ∙ (then_same (other s ts) (λ t rest. repeat_is stops step other h n t rest) ∙ sym (if_no (stops ts) _ _ e)))
+]
 
 -- ---- a choice by the next symbol's class
 
@@ -242,11 +242,11 @@ pick set r t [] = t []
 pick set r t (s ∷ ts) = if is_in set (code s.class) then r (s ∷ ts) else t (s ∷ ts)
 
 pub pick_exact : {A : Type 0} {p q : Phrase A} {r t : Reader A} {sp sq gp gq : List ℕ} (g : List ℕ)
-  → Exact p r sp (λ _. gp) true → Exact q t sq (λ _. gq) true → apart sq sp ≡ true → within gp g ≡ true → within gq g ≡ true
-  → Exact (p or q) (pick sp r t) (sp ++ sq) (λ _. g) true
+    → Exact p r sp (λ _. gp) true → Exact q t sq (λ _. gq) true → apart sq sp ≡ true → within gp g ≡ true → within gq g ≡ true
+    → Exact (p or q) (pick sp r t) (sp ++ sq) (λ _. g) true
 pick_exact {A} {p} {q} {r} {t} {sp} {sq} {gp} {gq} g ep eq h hp hq =
     or_exact p q r t (pick sp r t) sp sq (λ _. gp) (λ _. gq) (λ _. g) true ep eq h
-      (λ s ts e. if_yes (is_in sp (code s.class)) _ _ e) (λ s ts e. if_no (is_in sp (code s.class)) _ _ e) refl (λ _. hp) (λ _. hq) (λ e. cc)
+    (λ s ts e. if_yes (is_in sp (code s.class)) _ _ e) (λ s ts e. if_no (is_in sp (code s.class)) _ _ e) refl (λ _. hp) (λ _. hq) (λ e. cc)
 
 pub if_yes_at : {A : Type 0} (b : Bool) (r t : Reader A) (ts : List Sym) → b ≡ true → (if b then r else t) ts ≡ r ts
 if_yes_at true r t ts e = refl
@@ -263,8 +263,8 @@ regroup_read (Fails rest) k l = refl
 
 -- the same where what may follow depends on the value
 pub pick_over : {A : Type 0} {p q : Phrase A} {r t : Reader A} {sp sq : List ℕ} {gp gq : A → List ℕ} (g : A → List ℕ)
-  → Exact p r sp gp true → Exact q t sq gq true → apart sq sp ≡ true → ((a : A) → within (gp a) (g a) ≡ true) → ((a : A) → within (gq a) (g a) ≡ true)
-  → Exact (p or q) (pick sp r t) (sp ++ sq) g true
+    → Exact p r sp gp true → Exact q t sq gq true → apart sq sp ≡ true → ((a : A) → within (gp a) (g a) ≡ true) → ((a : A) → within (gq a) (g a) ≡ true)
+    → Exact (p or q) (pick sp r t) (sp ++ sq) g true
 pick_over {A} {p} {q} {r} {t} {sp} {sq} {gp} {gq} g ep eq h hp hq =
     or_exact p q r t (pick sp r t) sp sq gp gq g true ep eq h
-      (λ s ts e. if_yes (is_in sp (code s.class)) _ _ e) (λ s ts e. if_no (is_in sp (code s.class)) _ _ e) refl hp hq (λ e. cc)
+    (λ s ts e. if_yes (is_in sp (code s.class)) _ _ e) (λ s ts e. if_no (is_in sp (code s.class)) _ _ e) refl hp hq (λ e. cc)

@@ -16,7 +16,7 @@ stops_more xs ys [] e h = tt
 stops_more xs ys (c ∷ ts) e h = within_no xs ys (code c.class) e h
 
 pub widen : {A : Type 0} {p : Phrase A} {r : Reader A} {s : List ℕ} {g : A → List ℕ} {n : Bool} (s' : List ℕ) (g' : A → List ℕ)
-  → Exact p r s g n → within s s' ≡ true → ((a : A) → within (g a) (g' a) ≡ true) → Exact p r s' g' n
+    → Exact p r s g n → within s s' ≡ true → ((a : A) → within (g a) (g' a) ≡ true) → Exact p r s' g' n
 widen {g = g} s' g' e h k = record {
   whole = e.whole;
   empty = e.empty;
@@ -33,7 +33,7 @@ widen {g = g} s' g' e h k = record {
 -- ---- another reader that does the same
 
 pub by_reader : {A : Type 0} {p : Phrase A} {r : Reader A} {s : List ℕ} {g : A → List ℕ} {n : Bool} (t : Reader A)
-  → Exact p r s g n → ((ts : List Sym) → t ts ≡ r ts) → Exact p t s g n
+    → Exact p r s g n → ((ts : List Sym) → t ts ≡ r ts) → Exact p t s g n
 by_reader t e h = record {
   whole = e.whole;
   empty = e.empty;
@@ -59,7 +59,7 @@ pub ends_as : {P Q : List Sym → Type 0} {ts rest : List Sym} → ((w : List Sy
 ends_as f e = record { read = e.read; is = e.is; holds = f e.read e.holds }
 
 pub by_phrase : {A : Type 0} {p : Phrase A} {r : Reader A} {s : List ℕ} {g : A → List ℕ} {n : Bool} (q : Phrase A)
-  → Exact p r s g n → Same p q → Exact q r s g n
+    → Exact p r s g n → Same p q → Exact q r s g n
 by_phrase q e h = record {
   whole = λ w a k. h.begun w (e.whole w a (h.spelt_back w a k));
   empty = h.begun [] e.empty;
@@ -136,18 +136,23 @@ or_then {A} {B} p q k = record { spelt = spelt; spelt_back = spelt_back; begun =
   where
     S : B → List Sym → Type 0
     S b w = Cut (λ ts a. p.spells ts a ⊎ q.spells ts a) (λ a us. (k a).spells us b) w
+
     pick : (w : List Sym) (Q : A → List Sym → Type 0) (u v : List Sym) (a : A) → w ≡ u ++ v → p.spells u a ⊎ q.spells u a → Q a v → Cut p.spells Q w ⊎ Cut q.spells Q w
     pick w Q u v a e (inl x) f = inl (record { before = u; behind = v; value = a; is = e; spelt = x; follows = f })
     pick w Q u v a e (inr x) f = inr (record { before = u; behind = v; value = a; is = e; spelt = x; follows = f })
+
     spelt : (w : List Sym) (b : B) → S b w → Cut p.spells (λ a us. (k a).spells us b) w ⊎ Cut q.spells (λ a us. (k a).spells us b) w
     spelt w b c = pick w (λ a us. (k a).spells us b) c.before c.behind c.value c.is c.spelt c.follows
+
     spelt_back : (w : List Sym) (b : B) → Cut p.spells (λ a us. (k a).spells us b) w ⊎ Cut q.spells (λ a us. (k a).spells us b) w → S b w
     spelt_back w b (inl c) = record { before = c.before; behind = c.behind; value = c.value; is = c.is; spelt = inl c.spelt; follows = c.follows }
     spelt_back w b (inr c) = record { before = c.before; behind = c.behind; value = c.value; is = c.is; spelt = inr c.spelt; follows = c.follows }
+
     begun : (w : List Sym) → (p.front w ⊎ q.front w) ⊎ Cut (λ ts a. p.spells ts a ⊎ q.spells ts a) (λ a. (k a).front) w → (p.front w ⊎ Cut p.spells (λ a. (k a).front) w) ⊎ (q.front w ⊎ Cut q.spells (λ a. (k a).front) w)
     begun w (inl (inl x)) = inl (inl x)
     begun w (inl (inr x)) = inr (inl x)
     begun w (inr c) = ⊎_elim (λ x. inl (inr x)) (λ x. inr (inr x)) (pick w (λ a. (k a).front) c.before c.behind c.value c.is c.spelt c.follows)
+
     begun_back : (w : List Sym) → (p.front w ⊎ Cut p.spells (λ a. (k a).front) w) ⊎ (q.front w ⊎ Cut q.spells (λ a. (k a).front) w) → (p.front w ⊎ q.front w) ⊎ Cut (λ ts a. p.spells ts a ⊎ q.spells ts a) (λ a. (k a).front) w
     begun_back w (inl (inl x)) = inl (inl x)
     begun_back w (inl (inr c)) = inr (record { before = c.before; behind = c.behind; value = c.value; is = c.is; spelt = inl c.spelt; follows = c.follows })
@@ -161,16 +166,20 @@ factor {A} {B} p k l = record { spelt = spelt; spelt_back = spelt_back; begun = 
     pick : (w : List Sym) (P Q : A → List Sym → Type 0) (u v : List Sym) (a : A) → w ≡ u ++ v → p.spells u a → P a v ⊎ Q a v → Cut p.spells P w ⊎ Cut p.spells Q w
     pick w P Q u v a e x (inl f) = inl (record { before = u; behind = v; value = a; is = e; spelt = x; follows = f })
     pick w P Q u v a e x (inr f) = inr (record { before = u; behind = v; value = a; is = e; spelt = x; follows = f })
+
     spelt : (w : List Sym) (b : B) → Cut p.spells (λ a us. (k a).spells us b) w ⊎ Cut p.spells (λ a us. (l a).spells us b) w → Cut p.spells (λ a us. (k a).spells us b ⊎ (l a).spells us b) w
     spelt w b (inl c) = recut (λ w a x. x) (λ a us x. inl x) c
     spelt w b (inr c) = recut (λ w a x. x) (λ a us x. inr x) c
+
     spelt_back : (w : List Sym) (b : B) → Cut p.spells (λ a us. (k a).spells us b ⊎ (l a).spells us b) w → Cut p.spells (λ a us. (k a).spells us b) w ⊎ Cut p.spells (λ a us. (l a).spells us b) w
     spelt_back w b c = pick w (λ a us. (k a).spells us b) (λ a us. (l a).spells us b) c.before c.behind c.value c.is c.spelt c.follows
+
     begun : (w : List Sym) → (p.front w ⊎ Cut p.spells (λ a. (k a).front) w) ⊎ (p.front w ⊎ Cut p.spells (λ a. (l a).front) w) → p.front w ⊎ Cut p.spells (λ a us. (k a).front us ⊎ (l a).front us) w
     begun w (inl (inl x)) = inl x
     begun w (inl (inr c)) = inr (recut (λ w a x. x) (λ a us x. inl x) c)
     begun w (inr (inl x)) = inl x
     begun w (inr (inr c)) = inr (recut (λ w a x. x) (λ a us x. inr x) c)
+
     begun_back : (w : List Sym) → p.front w ⊎ Cut p.spells (λ a us. (k a).front us ⊎ (l a).front us) w → (p.front w ⊎ Cut p.spells (λ a. (k a).front) w) ⊎ (p.front w ⊎ Cut p.spells (λ a. (l a).front) w)
     begun_back w (inl x) = inl (inl x)
     begun_back w (inr c) = ⊎_elim (λ x. inl (inr x)) (λ x. inr (inr x)) (pick w (λ a. (k a).front) (λ a. (l a).front) c.before c.behind c.value c.is c.spelt c.follows)
@@ -181,31 +190,40 @@ regroup {A} {B} {C} p k l = record { spelt = λ w c x. right w _ x; spelt_back =
   where
     Inner : B → List Sym → Type 0
     Inner b w = Cut p.spells (λ a us. (k a).spells us b) w
+
     right : (w : List Sym) (Q : B → List Sym → Type 0) → Cut (λ us b. Inner b us) Q w → Cut p.spells (λ a. Cut (k a).spells Q) w
     right w Q c =
         let d = c.spelt in
         record {
-          before = d.before; behind = d.behind ++ c.behind; value = d.value;
+          before = d.before;
+          behind = d.behind ++ c.behind;
+          value = d.value;
           is = c.is ∙ (ap (λ x. x ++ c.behind) d.is ∙ append_assoc d.before d.behind c.behind);
           spelt = d.spelt;
           follows = record { before = d.behind; behind = c.behind; value = c.value; is = refl; spelt = d.follows; follows = c.follows };
         }
+
     back : (w : List Sym) (Q : B → List Sym → Type 0) → Cut p.spells (λ a. Cut (k a).spells Q) w → Cut (λ us b. Inner b us) Q w
     back w Q c =
         let d = c.follows in
         record {
-          before = c.before ++ d.before; behind = d.behind; value = d.value;
+          before = c.before ++ d.before;
+          behind = d.behind;
+          value = d.value;
           is = c.is ∙ (ap (λ x. c.before ++ x) d.is ∙ sym (append_assoc c.before d.before d.behind));
           spelt = record { before = c.before; behind = d.before; value = c.value; is = refl; spelt = c.spelt; follows = d.spelt };
           follows = d.follows;
         }
+
     begun : (w : List Sym) → (p.front w ⊎ Cut p.spells (λ a. (k a).front) w) ⊎ Cut (λ us b. Inner b us) (λ b. (l b).front) w → p.front w ⊎ Cut p.spells (λ a us. (k a).front us ⊎ Cut (k a).spells (λ b. (l b).front) us) w
     begun w (inl (inl x)) = inl x
     begun w (inl (inr c)) = inr (recut (λ w a x. x) (λ a us x. inl x) c)
     begun w (inr c) = inr (recut (λ w a x. x) (λ a us x. inr x) (right w (λ b. (l b).front) c))
+
     split : (w : List Sym) (u v : List Sym) (a : A) → w ≡ u ++ v → p.spells u a → (k a).front v ⊎ Cut (k a).spells (λ b. (l b).front) v → (p.front w ⊎ Cut p.spells (λ a. (k a).front) w) ⊎ Cut (λ us b. Inner b us) (λ b. (l b).front) w
     split w u v a e x (inl f) = inl (inr (record { before = u; behind = v; value = a; is = e; spelt = x; follows = f }))
     split w u v a e x (inr f) = inr (back w (λ b. (l b).front) (record { before = u; behind = v; value = a; is = e; spelt = x; follows = f }))
+
     begun_back : (w : List Sym) → p.front w ⊎ Cut p.spells (λ a us. (k a).front us ⊎ Cut (k a).spells (λ b. (l b).front) us) w → (p.front w ⊎ Cut p.spells (λ a. (k a).front) w) ⊎ Cut (λ us b. Inner b us) (λ b. (l b).front) w
     begun_back w (inl x) = inl (inl x)
     begun_back w (inr c) = split w c.before c.behind c.value c.is c.spelt c.follows
@@ -218,8 +236,10 @@ give_then {A} {B} a k z = record { spelt = λ w b c. drop_it w (λ x us. (k x).s
     drop_it w Q c =
         let e : w ≡ c.behind = c.is ∙ ap (λ x. x ++ c.behind) c.spelt.0 in
         subst (Q a) (sym e) (subst (λ x. Q x c.behind) c.spelt.1 c.follows)
+
     put : (w : List Sym) (Q : A → List Sym → Type 0) → Q a w → Cut (λ ts b. (ts ≡ []) × (b ≡ a)) Q w
     put w Q x = record { before = []; behind = w; value = a; is = refl; spelt = (refl, refl); follows = x }
+
     begun : (w : List Sym) → (w ≡ []) ⊎ Cut (λ ts b. (ts ≡ []) × (b ≡ a)) (λ x. (k x).front) w → (k a).front w
     begun w (inl e) = subst (k a).front (sym e) z
     begun w (inr c) = drop_it w (λ x. (k x).front) c
@@ -232,8 +252,10 @@ then_give {A} p whole = record { spelt = spelt; spelt_back = spelt_back; begun =
     spelt w a c =
         let e : w ≡ c.before = c.is ∙ (ap (λ x. c.before ++ x) c.follows.0 ∙ append-nil c.before) in
         subst (λ x. p.spells w x) (sym c.follows.1) (subst (λ x. p.spells x c.value) (sym e) c.spelt)
+
     spelt_back : (w : List Sym) (a : A) → p.spells w a → Cut p.spells (λ b us. (us ≡ []) × (a ≡ b)) w
     spelt_back w a x = record { before = w; behind = []; value = a; is = sym (append-nil w); spelt = x; follows = (refl, refl) }
+
     begun : (w : List Sym) → p.front w ⊎ Cut p.spells (λ b us. us ≡ []) w → p.front w
     begun w (inl x) = x
     begun w (inr c) =
@@ -243,34 +265,33 @@ then_give {A} p whole = record { spelt = spelt; spelt_back = spelt_back; begun =
 -- ---- one or the other, told by the next symbol
 
 module _ {A : Type 0} (p q : Phrase A) (r t u : Reader A) (sp sq : List ℕ) (gp gq g : A → List ℕ) (nq : Bool)
-         (ep : Exact p r sp gp true) (eq : Exact q t sq gq nq)
-         (parted : apart sq sp ≡ true)
-         (first_of_p : (s : Sym) (ts : List Sym) → is_in sp (code s.class) ≡ true → u (s ∷ ts) ≡ r (s ∷ ts))
-         (first_of_q : (s : Sym) (ts : List Sym) → is_in sp (code s.class) ≡ false → u (s ∷ ts) ≡ t (s ∷ ts))
-         (at_end : u [] ≡ t [])
-         (goes_p : (a : A) → within (gp a) (g a) ≡ true) (goes_q : (a : A) → within (gq a) (g a) ≡ true)
-         (goes_on : nq ≡ false → (a : A) → q.spells [] a → within sp (g a) ≡ true) where
-
+    (ep : Exact p r sp gp true) (eq : Exact q t sq gq nq)
+    (parted : apart sq sp ≡ true)
+    (first_of_p : (s : Sym) (ts : List Sym) → is_in sp (code s.class) ≡ true → u (s ∷ ts) ≡ r (s ∷ ts))
+    (first_of_q : (s : Sym) (ts : List Sym) → is_in sp (code s.class) ≡ false → u (s ∷ ts) ≡ t (s ∷ ts))
+    (at_end : u [] ≡ t [])
+    (goes_p : (a : A) → within (gp a) (g a) ≡ true) (goes_q : (a : A) → within (gq a) (g a) ≡ true)
+    (goes_on : nq ≡ false → (a : A) → q.spells [] a → within sp (g a) ≡ true) where
   or_less : (ts : List Sym) → left (u ts) ≤ length ts
   or_less [] = omega (arith, ap left at_end, less eq [])
   or_less (s ∷ ts) = elim (bool_is (is_in sp (code s.class))) [
-      inl h ↦ omega (arith, ap left (first_of_p s ts h), less ep (s ∷ ts))
+    | inl h ↦ omega (arith, ap left (first_of_p s ts h), less ep (s ∷ ts))
     | inr h ↦ omega (arith, ap left (first_of_q s ts h), less eq (s ∷ ts))
-    ]
+  ]
 
   or_got : (ts : List Sym) (a : A) (rest : List Sym) → u ts ≡ Got a rest → Ends ts rest (λ w. p.spells w a ⊎ q.spells w a)
   or_got [] a rest e = ends_as (λ w x. inr x) (eq.got [] a rest (sym at_end ∙ e))
   or_got (s ∷ ts) a rest e = elim (bool_is (is_in sp (code s.class))) [
-      inl h ↦ ends_as (λ w x. inl x) (ep.got (s ∷ ts) a rest (sym (first_of_p s ts h) ∙ e))
+    | inl h ↦ ends_as (λ w x. inl x) (ep.got (s ∷ ts) a rest (sym (first_of_p s ts h) ∙ e))
     | inr h ↦ ends_as (λ w x. inr x) (eq.got (s ∷ ts) a rest (sym (first_of_q s ts h) ∙ e))
-    ]
+  ]
 
   or_fails : (ts x : List Sym) → u ts ≡ Fails x → Ends ts x (λ w. p.front w ⊎ q.front w)
   or_fails [] x e = ends_as (λ w x. inr x) (eq.fails [] x (sym at_end ∙ e))
   or_fails (s ∷ ts) x e = elim (bool_is (is_in sp (code s.class))) [
-      inl h ↦ ends_as (λ w x. inl x) (ep.fails (s ∷ ts) x (sym (first_of_p s ts h) ∙ e))
+    | inl h ↦ ends_as (λ w x. inl x) (ep.fails (s ∷ ts) x (sym (first_of_p s ts h) ∙ e))
     | inr h ↦ ends_as (λ w x. inr x) (eq.fails (s ∷ ts) x (sym (first_of_q s ts h) ∙ e))
-    ]
+  ]
 
   other : (s : Sym) (ts : List Sym) → q.front (s ∷ ts) → is_in sp (code s.class) ≡ false
   other s ts f = apart_no sq sp (code s.class) parted (eq.first s ts f)
@@ -312,8 +333,7 @@ module _ {A : Type 0} (p q : Phrase A) (r t u : Reader A) (sp sq : List ℕ) (gp
 -- ---- a phrase that knows where it begins
 
 module _ {A : Type 0} (k : Place → Phrase A) (r : Place → Reader A) (s : List ℕ) (g : A → List ℕ)
-         (e : (at : Place) → Exact (k at) (r at) s g true) where
-
+    (e : (at : Place) → Exact (k at) (r at) s g true) where
   placed_got : (at : Place) (w : List Sym) (a : A) (rest : List Sym) → at ≡ place_of (w ++ rest) → (k at).spells w a → (k (place_of w)).spells w a
   placed_got at [] a rest q h = absurd ((e at).fills refl a h)
   placed_got at (c ∷ w) a rest q h = subst (λ x. (k x).spells (c ∷ w) a) q h
@@ -378,6 +398,7 @@ arrange s c z a g = record {
     to S C Z A G (inl (inr x)) = inr (inr (inl x))
     to S C Z A G (inr (inl x)) = inr (inr (inr x))
     to S C Z A G (inr (inr x)) = inr (inl (inr x))
+
     back : (S C Z A G : Type 0) → S ⊎ ((C ⊎ G) ⊎ (Z ⊎ A)) → (((S ⊎ C) ⊎ Z) ⊎ (A ⊎ G))
     back S C Z A G (inl x) = inl (inl (inl x))
     back S C Z A G (inr (inl (inl x))) = inl (inl (inr x))
@@ -392,13 +413,17 @@ placed_then {A} {B} k l fills = record { spelt = λ w b c. to w (λ a us. (l a).
     same_place : (w u v : List Sym) (a : A) (at : Place) → w ≡ u ++ v → (k at).spells u a → at ≡ place_of w ⊎ at ≡ place_of u → (place_of w ≡ place_of u)
     same_place w [] v a at e h q = absurd (fills at a h)
     same_place w (c ∷ u) v a at e h q = ap place_of e
+
     to : (w : List Sym) (Q : A → List Sym → Type 0) → Cut (λ us a. (k (place_of us)).spells us a) Q w → Cut (k (place_of w)).spells Q w
     to w Q c = record { before = c.before; behind = c.behind; value = c.value; is = c.is; spelt = subst (λ at. (k at).spells c.before c.value) (sym (same_place w c.before c.behind c.value (place_of c.before) c.is c.spelt (inr refl))) c.spelt; follows = c.follows }
+
     back : (w : List Sym) (Q : A → List Sym → Type 0) → Cut (k (place_of w)).spells Q w → Cut (λ us a. (k (place_of us)).spells us a) Q w
     back w Q c = record { before = c.before; behind = c.behind; value = c.value; is = c.is; spelt = subst (λ at. (k at).spells c.before c.value) (same_place w c.before c.behind c.value (place_of w) c.is c.spelt (inl refl)) c.spelt; follows = c.follows }
+
     begun : (w : List Sym) → (k (place_of w)).front w ⊎ Cut (λ us a. (k (place_of us)).spells us a) (λ a. (l a).front) w → (k (place_of w)).front w ⊎ Cut (k (place_of w)).spells (λ a. (l a).front) w
     begun w (inl x) = inl x
     begun w (inr c) = inr (to w (λ a. (l a).front) c)
+
     begun_back : (w : List Sym) → (k (place_of w)).front w ⊎ Cut (k (place_of w)).spells (λ a. (l a).front) w → (k (place_of w)).front w ⊎ Cut (λ us a. (k (place_of us)).spells us a) (λ a. (l a).front) w
     begun_back w (inl x) = inl x
     begun_back w (inr c) = inr (back w (λ a. (l a).front) c)

@@ -144,7 +144,7 @@ behind_char : (at : Place) → Exact (ph.◌>>◌ dg.star_ (ph.◌>>◌ dg.star_
 unfolding dc.arguments_param dc.sees_any_star
 behind_char at = token_then any_star_exact (λ _. by_reader _
     (branch_exact is_star STARS (λ _. []) in_stars refl refl (map_same (listed_of at) name_exact)
-      (token_then name_exact (λ called. token_then (mark_exact mark.OpenSquare) (λ _. token_then (mark_exact mark.CloseSquare) (λ _. give_exact (listed_of at called))))) refl (λ _. refl) (λ _. refl) (λ e. cc))
+    (token_then name_exact (λ called. token_then (mark_exact mark.OpenSquare) (λ _. token_then (mark_exact mark.CloseSquare) (λ _. give_exact (listed_of at called))))) refl (λ _. refl) (λ _. refl) (λ e. cc))
     (λ ts. double_is at (is_star (class_at ts)) ts))
 
 pub param_exact : Exact dg.param dc.param (13 ∷ BASES) (λ _. 32 ∷ []) true
@@ -157,8 +157,8 @@ pub params_exact : Exact dg.params dc.params (31 ∷ 12 ∷ 13 ∷ BASES) (λ _.
 unfolding dg.params dc.params dc.some_params dc.listed_params sees sees_key
 params_exact = by_phrase _ (by_reader _
     (branch_exact (is_mark mark.Close) (31 ∷ []) (λ _. []) (in_mark mark.Close) refl refl (give_exact [])
-      (by_reader _ (branch_exact (is_key key.Void) (12 ∷ []) (λ _. []) (in_key key.Void) refl refl (token_then (mark_exact mark.Close) (λ _. give_exact []))
-        (seq (separated_exact param_exact refl) (λ found. token_then (mark_exact mark.Close) (λ _. give_exact found)) refl) refl (λ _. refl) (λ _. refl) (λ e. cc))
-        (λ ts. eaten (is_key key.Void (class_at ts)) ts _ _))
-      refl (λ _. refl) (λ _. refl) (λ e. cc))
+    (by_reader _ (branch_exact (is_key key.Void) (12 ∷ []) (λ _. []) (in_key key.Void) refl refl (token_then (mark_exact mark.Close) (λ _. give_exact []))
+    (seq (separated_exact param_exact refl) (λ found. token_then (mark_exact mark.Close) (λ _. give_exact found)) refl) refl (λ _. refl) (λ _. refl) (λ e. cc))
+    (λ ts. eaten (is_key key.Void (class_at ts)) ts _ _))
+    refl (λ _. refl) (λ _. refl) (λ e. cc))
     (λ ts. eaten (is_mark mark.Close (class_at ts)) ts _ _)) (same_sym (or_group _ _ _))

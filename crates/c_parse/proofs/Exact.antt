@@ -103,8 +103,10 @@ give_exact {A} a = record {
   where
     got : (ts : List Sym) (b : A) (rest : List Sym) → Got a ts ≡ Got b rest → Ends ts rest (λ w. (w ≡ []) × (b ≡ a))
     got ts b rest e = let q : ts ≡ rest = cc in let v : b ≡ a = cc in record { read = []; is = q; holds = (refl, v) }
+
     complete : (w : List Sym) (b : A) → (w ≡ []) × (b ≡ a) → (rest : List Sym) → Got a (w ++ rest) ≡ Got b rest
     complete w b h rest = let e : w ++ rest ≡ rest = ap (λ l. l ++ rest) h.0 in let v : b ≡ a = h.1 in cc
+
     through : (f : List Sym) → f ≡ [] → (rest : List Sym) → length (f ++ rest) ≤ length rest
     through f h rest = let e : f ++ rest ≡ rest = ap (λ l. l ++ rest) h in omega (arith, ap length e)
 
@@ -126,6 +128,7 @@ nothing_exact {A} = record {
   where
     fails : (ts x : List Sym) → ◌≡◌ {A = Read A} (Fails ts) (Fails x) → Ends ts x (λ w. w ≡ [])
     fails ts x e = let q : ts ≡ x = cc in record { read = []; is = q; holds = refl }
+
     through : (f : List Sym) → f ≡ [] → (rest : List Sym) → length (f ++ rest) ≤ length rest
     through f h rest = let e : f ++ rest ≡ rest = ap (λ l. l ++ rest) h in omega (arith, ap length e)
 
@@ -169,20 +172,26 @@ one_exact {A} read starts begins plain = record {
     first : (s : Sym) (ts : List Sym) → (s ∷ ts ≡ []) ⊎ ((a : A) × IsOne read (s ∷ ts) a) → is_in starts (code s.class) ≡ true
     first s ts (inl e) = cc
     first s ts (inr h) = let q : s ≡ h.1.0 = (let e : s ∷ ts ≡ h.1.0 ∷ [] = h.1.1 in cc) in begins s h.0 (ap read q ∙ h.1.2)
+
     got : (ts : List Sym) (a : A) (rest : List Sym) → take_one read ts ≡ Got a rest → Ends ts rest (λ w. IsOne read w a)
     got [] a rest e = cc
     got (s ∷ ts) a rest e = let h = taken_got (read s) s ts a rest e in record { read = s ∷ []; is = ap (λ l. s ∷ l) h.1; holds = (s, refl, h.0) }
+
     fails : (ts x : List Sym) → take_one read ts ≡ Fails x → Ends ts x (λ ts. (ts ≡ []) ⊎ ((a : A) × IsOne read ts a))
     fails [] x e = let q : [] ≡ x = cc in record { read = []; is = q; holds = inl refl }
     fails (s ∷ ts) x e = record { read = []; is = taken_fails (read s) s ts x e; holds = inl refl }
+
     complete : (w : List Sym) (a : A) → IsOne read w a → (rest : List Sym) → take_one read (w ++ rest) ≡ Got a rest
     complete w a h rest = ap (λ l. take_one read (l ++ rest)) h.1 ∙ ap (λ o. taken o h.0 rest) h.2
+
     any_less : (ts : List Sym) → left (take_one read ts) ≤ length ts
     any_less [] = omega arith
     any_less (s ∷ ts) = taken_less (read s) s ts
+
     through : (f : List Sym) → (f ≡ []) ⊎ ((a : A) × IsOne read f a) → (rest : List Sym) → left (take_one read (f ++ rest)) ≤ length rest
     through f (inl e) rest = subst (λ l. left (take_one read (l ++ rest)) ≤ length rest) (sym e) (any_less rest)
     through f (inr h) rest = omega (arith, ap left (complete f h.0 h.1 rest))
+
     closed : (u v : List Sym) → (u ++ v ≡ []) ⊎ ((a : A) × IsOne read (u ++ v) a) → (u ≡ []) ⊎ ((a : A) × IsOne read u a)
     closed u v (inl e) = inl (empty_left u v e)
     closed [] v (inr h) = inl refl
@@ -191,6 +200,7 @@ one_exact {A} read starts begins plain = record {
         let tail : u ++ v ≡ [] = cc in
         let z : u ≡ [] = empty_left u v tail in
         inr (h.0, (h.1.0, (let k : c ∷ u ≡ h.1.0 ∷ [] = cc in k), h.1.2))
+
     clean : (w : List Sym) → (w ≡ []) ⊎ ((a : A) × IsOne read w a) → NoneRefused w
     clean w (inl e) = clean_empty w e
     clean w (inr h) = subst NoneRefused (sym h.1.1) (kept h.1.0 h.0 h.1.2, tt)
@@ -201,14 +211,13 @@ one_exact {A} read starts begins plain = record {
 -- ---- one behind another
 
 module _ {A B : Type 0} (p : Phrase A) (k : A → Phrase B) (r : Reader A) (l : A → Reader B)
-         (sp : List ℕ) (gp : A → List ℕ) (np : Bool) (sk : List ℕ) (gk : A → B → List ℕ) (nk : Bool)
-         (s : List ℕ) (g : B → List ℕ) (n : Bool)
-         (ep : Exact p r sp gp np) (ek : (a : A) → Exact (k a) (l a) sk (gk a) nk)
-         (begins : within sp s ≡ true) (skips : np ≡ false → within sk s ≡ true) (fills : n ≡ true → (np ≡ true) ⊎ (nk ≡ true))
-         (parted : (a : A) (c : Sym) (ts : List Sym) → (k a).front (c ∷ ts) → is_in (gp a) (code c.class) ≡ false)
-         (ends : (a : A) (b : B) (ts : List Sym) → (k a).spells ts b → within (gk a b) (g b) ≡ true)
-         (open_ends : (a : A) (b : B) → (k a).spells [] b → within (gp a) (g b) ≡ true) where
-
+    (sp : List ℕ) (gp : A → List ℕ) (np : Bool) (sk : List ℕ) (gk : A → B → List ℕ) (nk : Bool)
+    (s : List ℕ) (g : B → List ℕ) (n : Bool)
+    (ep : Exact p r sp gp np) (ek : (a : A) → Exact (k a) (l a) sk (gk a) nk)
+    (begins : within sp s ≡ true) (skips : np ≡ false → within sk s ≡ true) (fills : n ≡ true → (np ≡ true) ⊎ (nk ≡ true))
+    (parted : (a : A) (c : Sym) (ts : List Sym) → (k a).front (c ∷ ts) → is_in (gp a) (code c.class) ≡ false)
+    (ends : (a : A) (b : B) (ts : List Sym) → (k a).spells ts b → within (gk a b) (g b) ≡ true)
+    (open_ends : (a : A) (b : B) → (k a).spells [] b → within (gp a) (g b) ≡ true) where
   stops_in : (xs ys : List ℕ) (rest : List Sym) → within xs ys ≡ true → Stops ys rest → Stops xs rest
   stops_in xs ys [] e h = tt
   stops_in xs ys (c ∷ ts) e h = within_no xs ys (code c.class) e h
@@ -256,13 +265,13 @@ module _ {A B : Type 0} (p : Phrase A) (k : A → Phrase B) (r : Reader A) (l : 
   bind_fails ts x e = ⊎_elim
       (λ bad. let u = ep.fails ts x bad in record { read = u.read; is = u.is; holds = inl u.holds })
       (λ m.
-        let u = ep.got ts m.0 m.1 m.2 in
-        let v = (ek m.0).fails m.1 x m.3 in
-        record {
-          read = u.read ++ v.read;
-          is = u.is ∙ (ap (λ y. u.read ++ y) v.is ∙ sym (append_assoc u.read v.read x));
-          holds = inr (record { before = u.read; behind = v.read; value = m.0; is = refl; spelt = u.holds; follows = v.holds });
-        })
+      let u = ep.got ts m.0 m.1 m.2 in
+      let v = (ek m.0).fails m.1 x m.3 in
+      record {
+        read = u.read ++ v.read;
+        is = u.is ∙ (ap (λ y. u.read ++ y) v.is ∙ sym (append_assoc u.read v.read x));
+        holds = inr (record { before = u.read; behind = v.read; value = m.0; is = refl; spelt = u.holds; follows = v.holds });
+      })
       (then_fails (r ts) l x e)
 
   bind_complete : (w : List Sym) (b : B) → Cut p.spells (λ a us. (k a).spells us b) w → (rest : List Sym) → Stops (g b) rest → and_then (r (w ++ rest)) l ≡ Got b rest
@@ -273,9 +282,11 @@ module _ {A B : Type 0} (p : Phrase A) (k : A → Phrase B) (r : Reader A) (l : 
 
   bind_through : (f : List Sym) → p.front f ⊎ Cut p.spells (λ a. (k a).front) f → (rest : List Sym) → left (and_then (r (f ++ rest)) l) ≤ length rest
   bind_through f (inl h) rest = then_less (r (f ++ rest)) l (length rest) (ep.through f h rest) (λ a ts. less (ek a) ts)
-  bind_through f (inr c) rest = omega (arith,
-      ap (λ x. left (and_then (r x) l)) (ap (λ x. x ++ rest) c.is ∙ append_assoc c.before c.behind rest),
-      after c.value c.behind c.before rest c.spelt c.follows)
+  bind_through f (inr c) rest = omega (
+    arith,
+    ap (λ x. left (and_then (r x) l)) (ap (λ x. x ++ rest) c.is ∙ append_assoc c.before c.behind rest),
+    after c.value c.behind c.before rest c.spelt c.follows,
+  )
 
   bind_closed_in : (u v a b : List Sym) (x : A) → u ++ v ≡ a ++ b → p.spells a x → (k x).front b → Overlap u v a b → p.front u ⊎ Cut p.spells (λ a. (k a).front) u
   bind_closed_in u v a b x e h f (within_first m q) = inl (ep.closed u m (subst p.front q (ep.whole a x h)))

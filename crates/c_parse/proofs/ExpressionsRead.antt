@@ -126,12 +126,12 @@ module _ (bp : Part → Phrase x.Expr) (br : Part → Reader x.Expr) (eb : Below
       let sides = tighter_facts level (omega arith) in
       widen (tighter_codes (suc level)) (λ _. tighter_codes (suc level) ++ STEPS)
       (maybe_both (climb_exact level (omega arith) at first) (λ left. by_reader _
-        (repeat_exact (step_ level at) (operation_reader level at) (ex.ends r_ level) (level_codes level) (tighter_codes level ++ STEPS)
-          (λ left. token_then (one_as_exact (binary_of level) (level_codes level) (λ c. in_level level c lt) facts.plain)
-            (λ sign. map_same (λ right. x.Binary' at sign left right) (placed_exact (gr.binary p_ level) (operand_reader level) EXPR (λ _. tighter_codes level ++ STEPS)
-              (λ at. by_phrase _ (widen EXPR (λ _. tighter_codes level ++ STEPS) (seq_maybe (eb part.Unary) (climb_exact level (omega arith) at) sides.parted) refl (λ _. sides.both)) (same_sym (binary_same level at))))))
-          (goes_when level lt) facts.parted (λ _. tighter_codes (suc level) ++ STEPS) (λ _. facts.more) (λ _. ends_when level lt) left)
-        (λ ts. repeat_is (ex.ends r_ level) (ex.operation r_ level (ex.climb r_ level) at) (operation_reader level at) (λ s ts _. operation_is level at s ts) (length ts) left ts)) facts.parted)
+      (repeat_exact (step_ level at) (operation_reader level at) (ex.ends r_ level) (level_codes level) (tighter_codes level ++ STEPS)
+      (λ left. token_then (one_as_exact (binary_of level) (level_codes level) (λ c. in_level level c lt) facts.plain)
+      (λ sign. map_same (λ right. x.Binary' at sign left right) (placed_exact (gr.binary p_ level) (operand_reader level) EXPR (λ _. tighter_codes level ++ STEPS)
+      (λ at. by_phrase _ (widen EXPR (λ _. tighter_codes level ++ STEPS) (seq_maybe (eb part.Unary) (climb_exact level (omega arith) at) sides.parted) refl (λ _. sides.both)) (same_sym (binary_same level at))))))
+      (goes_when level lt) facts.parted (λ _. tighter_codes (suc level) ++ STEPS) (λ _. facts.more) (λ _. ends_when level lt) left)
+      (λ ts. repeat_is (ex.ends r_ level) (ex.operation r_ level (ex.climb r_ level) at) (operation_reader level at) (λ s ts _. operation_is level at s ts) (length ts) left ts)) facts.parted)
       facts.starts (λ _. facts.both)
 
   -- ---- conditional expressions
@@ -140,10 +140,10 @@ module _ (bp : Part → Phrase x.Expr) (br : Part → Reader x.Expr) (eb : Below
   unfolding gr.choice ex.choice sees
   choice_exact at first = widen (tighter_codes 10 ++ 39 ∷ []) (λ _. after part.Cond)
       (maybe_both (climb_exact 10 (omega arith) at first) (λ test. by_reader _
-        (branch_exact (is_mark mark.Question) (39 ∷ []) (λ _. after part.Cond) (in_mark mark.Question) refl refl
-          (seq (eb part.Assign) (λ yes'. token_then (mark_exact mark.Colon) (λ _. map_same (λ no'. x.Choice at test yes' no') (eb part.Cond))) refl)
-          (give_exact test) refl (λ _. refl) (λ _. refl) (λ _ _ _. refl))
-        (λ ts. eaten (is_mark mark.Question (class_at ts)) ts _ _)) refl) refl (λ _. refl)
+      (branch_exact (is_mark mark.Question) (39 ∷ []) (λ _. after part.Cond) (in_mark mark.Question) refl refl
+      (seq (eb part.Assign) (λ yes'. token_then (mark_exact mark.Colon) (λ _. map_same (λ no'. x.Choice at test yes' no') (eb part.Cond))) refl)
+      (give_exact test) refl (λ _. refl) (λ _. refl) (λ _ _ _. refl))
+      (λ ts. eaten (is_mark mark.Question (class_at ts)) ts _ _)) refl) refl (λ _. refl)
 
   cond_same : (at : Place) → Same (gr.cond p_ at) (ph.◌>>=◌ (bp part.Unary) (λ first. ph.◌>>=◌ (from 10 at first) (λ test. gr.choice p_ at test or give test)))
   unfolding gr.cond

@@ -86,10 +86,10 @@ typed_exact : (at : Place) (is_static : Bool) → Exact (typed_ at is_static) (s
 unfolding so.typed sees
 typed_exact at is_static = seq type_base_exact (λ base. placed_exact _ _ (50 ∷ 0 ∷ []) (λ _. []) (λ from. maybe_seq (star_exact base) (λ pointer. token_then name_exact (λ called.
     or_exact _ _ (so.function at is_static (Value (record { base = base; pointer = pointer })) called) (so.variables at is_static base from pointer called) (λ ts. (if sees mark.Open ts then so.function at is_static (Value (record { base = base; pointer = pointer })) called else so.variables at is_static base from pointer called) ts) (30 ∷ []) (32 ∷ 9 ∷ 37 ∷ 36 ∷ []) (λ _. []) (λ _. []) (λ _. []) true
-      (function_exact at is_static (Value (record { base = base; pointer = pointer })) called) (variables_exact at is_static base from pointer called) refl
-      (λ s ts e. if_yes_at (is_mark mark.Open s.class) (so.function at is_static (Value (record { base = base; pointer = pointer })) called) (so.variables at is_static base from pointer called) (s ∷ ts) (sym (in_mark mark.Open s.class) ∙ e))
-      (λ s ts e. if_no_at (is_mark mark.Open s.class) (so.function at is_static (Value (record { base = base; pointer = pointer })) called) (so.variables at is_static base from pointer called) (s ∷ ts) (sym (in_mark mark.Open s.class) ∙ e))
-      refl (λ _. refl) (λ _. refl) (λ e. cc))) refl)) refl
+    (function_exact at is_static (Value (record { base = base; pointer = pointer })) called) (variables_exact at is_static base from pointer called) refl
+    (λ s ts e. if_yes_at (is_mark mark.Open s.class) (so.function at is_static (Value (record { base = base; pointer = pointer })) called) (so.variables at is_static base from pointer called) (s ∷ ts) (sym (in_mark mark.Open s.class) ∙ e))
+    (λ s ts e. if_no_at (is_mark mark.Open s.class) (so.function at is_static (Value (record { base = base; pointer = pointer })) called) (so.variables at is_static base from pointer called) (s ∷ ts) (sym (in_mark mark.Open s.class) ∙ e))
+    refl (λ _. refl) (λ _. refl) (λ e. cc))) refl)) refl
 
 abbrev external_ : Place → Phrase x.Item
 external_ at = ph.◌>>=◌ (flag (key_ key.Static)) (λ is_static. ph.◌>>◌ (key_ key.Void) (ph.◌>>=◌ name_ (λ called. sc.function_of at is_static Void called)) or typed_ at is_static)
@@ -108,9 +108,9 @@ unfolding sc.function gr.type_name
 function_same at = same_bind (same_refl _) (λ is_static. same_trans (or_then _ _ _) (same_or
     (same_trans (regroup (key_ key.Void) _ _) (same_bind (same_refl _) (λ _. give_then Void (λ returns. ph.◌>>=◌ name_ (λ called. sc.function_of at is_static returns called)) (inl (inl refl)))))
     (same_trans (regroup gr.type_name _ _) (same_trans (regroup gr.type_base _ _) (same_bind (same_refl _) (λ base.
-      same_trans (regroup (gr.star base) _ _) (same_bind (same_refl _) (λ pointer.
-      same_trans (give_then (record { base = base; pointer = pointer }) (λ to. ph.◌>>=◌ (give (Value to)) (λ returns. ph.◌>>=◌ name_ (λ called. sc.function_of at is_static returns called))) (inl refl))
-        (give_then (Value (record { base = base; pointer = pointer })) (λ returns. ph.◌>>=◌ name_ (λ called. sc.function_of at is_static returns called)) (inl (inl refl)))))))))))
+    same_trans (regroup (gr.star base) _ _) (same_bind (same_refl _) (λ pointer.
+    same_trans (give_then (record { base = base; pointer = pointer }) (λ to. ph.◌>>=◌ (give (Value to)) (λ returns. ph.◌>>=◌ name_ (λ called. sc.function_of at is_static returns called))) (inl refl))
+    (give_then (Value (record { base = base; pointer = pointer })) (λ returns. ph.◌>>=◌ name_ (λ called. sc.function_of at is_static returns called)) (inl (inl refl)))))))))))
 
 abbrev declarator_at : Base → Place → Phrase x.Declarator
 declarator_at base at = ph.◌>>=◌ (gr.star base) (λ pointer. ph.◌>>=◌ name_ (λ called. dg.declared most_deep at pointer called))
@@ -130,7 +130,7 @@ variables_same at = same_trans (regroup (flag (key_ key.Static)) _ _) (same_bind
     (same_trans (same_bind (same_refl _) (λ found. same_trans (regroup (mark_ mark.Semicolon) _ _) (same_bind (same_refl _) (λ _. give_then (record { at = at; is_static = is_static; base = base; declarators = found }) (λ found. give (x.Variables found)) refl))))
     (same_trans (regroup (dg.declarator most_deep base) _ _)
     (same_trans (placed_then (declarator_at base) (more_ at is_static base) (declarator_fills base)) (same_placed (λ from.
-      same_trans (regroup (gr.star base) (λ pointer. ph.◌>>=◌ name_ (λ called. dg.declared most_deep from pointer called)) (more_ at is_static base)) (same_bind (same_refl (gr.star base)) (λ pointer. regroup name_ (λ called. dg.declared most_deep from pointer called) (more_ at is_static base))))))))))))
+    same_trans (regroup (gr.star base) (λ pointer. ph.◌>>=◌ name_ (λ called. dg.declared most_deep from pointer called)) (more_ at is_static base)) (same_bind (same_refl (gr.star base)) (λ pointer. regroup name_ (λ called. dg.declared most_deep from pointer called) (more_ at is_static base))))))))))))
 
 abbrev function_ : Place → Bool → Base → Bool → List ℕ → Phrase x.Item
 function_ at is_static base pointer called = sc.function_of at is_static (Value (record { base = base; pointer = pointer })) called
@@ -169,9 +169,9 @@ ITEM = 3 ∷ 14 ∷ 12 ∷ BASES
 
 item_at_exact : (at : Place) → Exact (ph.◌>>=◌ (one scope_as) (λ scope. give (x.Scope at scope.0 scope.1)) or ph.◌>>=◌ (dg.declaration_at most_deep at) (λ found. give (x.Variables found)) or sc.function at) (λ ts. so.item_by at (class_at ts) ts) ITEM (λ _. []) true
 item_at_exact at = by_phrase _ (or_exact _ _ (scope_reader at) (so.external at) _ (3 ∷ []) (14 ∷ 12 ∷ BASES) (λ _. []) (λ _. []) (λ _. []) true
-      (map_same (λ scope. x.Scope at scope.0 scope.1) (one_exact scope_as (3 ∷ []) (λ s a e. in_scopes s.class s.names a e) refl))
-      (by_phrase _ (external_exact at) (same_sym (external_same at))) refl
-      (λ s ts e. scope_read at s.at s.class s.bytes s.names ts e) (λ s ts e. not_scope at s.class (s ∷ ts) e) refl (λ _. refl) (λ _. refl) (λ e. cc))
+    (map_same (λ scope. x.Scope at scope.0 scope.1) (one_exact scope_as (3 ∷ []) (λ s a e. in_scopes s.class s.names a e) refl))
+    (by_phrase _ (external_exact at) (same_sym (external_same at))) refl
+    (λ s ts e. scope_read at s.at s.class s.bytes s.names ts e) (λ s ts e. not_scope at s.class (s ∷ ts) e) refl (λ _. refl) (λ _. refl) (λ e. cc))
     (same_sym (or_group _ _ _))
 
 pub item_exact : Exact sc.item so.item ITEM (λ _. []) true

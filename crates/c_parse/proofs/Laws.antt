@@ -191,8 +191,8 @@ pub same_tree : (src : List ℕ) (ts : List Token) (t u : x.Tree) → Spelt src 
 same_tree src ts t u h k =
     let e = same_symbols h.seen k.symbols k.seen in
     tree_is t u
-      (got_same t.items u.items [] [] (sym (spelt_read h.symbols t.items h.items) ∙ spelt_read h.symbols u.items (subst (λ ss. sc.unit.spells ss u.items) (sym e) k.items)))
-      (h.last ∙ (ap last_line e ∙ sym k.last))
+    (got_same t.items u.items [] [] (sym (spelt_read h.symbols t.items h.items) ∙ spelt_read h.symbols u.items (subst (λ ss. sc.unit.spells ss u.items) (sym e) k.items)))
+    (h.last ∙ (ap last_line e ∙ sym k.last))
 
 -- ---- what is refused
 
@@ -288,5 +288,5 @@ refused_at_end src ts ss h e =
     let f = source_fails ss (items_read ss) [] refl e in
     let u = fails_viable ss [] f in
     at_end ss h
-      (λ front more q. viable_front front more (subst Viable (sym (append-nil u.read) ∙ (sym u.is ∙ q)) u.holds))
-      (λ items k. (let z : Got items [] ≡ Fails [] = sym (spelt_read ss items k) ∙ f in cc))
+    (λ front more q. viable_front front more (subst Viable (sym (append-nil u.read) ∙ (sym u.is ∙ q)) u.holds))
+    (λ items k. (let z : Got items [] ≡ Fails [] = sym (spelt_read ss items k) ∙ f in cc))

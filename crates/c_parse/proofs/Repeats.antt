@@ -18,12 +18,12 @@ if_no true x y e = cc
 if_no false x y e = refl
 
 module _ {S : Type 0} (k : S → Phrase S) (next : S → Reader S) (stops : List Sym → Bool) (sk gk : List ℕ)
-         (ek : (s : S) → Exact (k s) (next s) sk (λ _. gk) true)
-         (started : (c : Sym) (ts : List Sym) → is_in sk (code c.class) ≡ true → stops (c ∷ ts) ≡ false)
-         (parted : apart sk gk ≡ true) where
-
+    (ek : (s : S) → Exact (k s) (next s) sk (λ _. gk) true)
+    (started : (c : Sym) (ts : List Sym) → is_in sk (code c.class) ≡ true → stops (c ∷ ts) ≡ false)
+    (parted : apart sk gk ≡ true) where
   abbrev pub Spells : S → List Sym → S → Type 0
   Spells s = (k s).spells
+
   abbrev pub Front : S → List Sym → Type 0
   Front s = (k s).front
 
@@ -46,9 +46,9 @@ module _ {S : Type 0} (k : S → Phrase S) (next : S → Reader S) (stops : List
   pub loop_less : (n : ℕ) (s : S) (ts : List Sym) → left (loop n s ts) ≤ length ts
   loop_less zero s ts = omega (arith, ap left (none_left s ts))
   loop_less (suc n) s ts = elim (bool_is (stops ts)) [
-      inl e ↦ omega (arith, ap left (stay (suc n) s ts e))
+    | inl e ↦ omega (arith, ap left (stay (suc n) s ts e))
     | inr e ↦ omega (arith, ap left (turn n s ts e), then_less (next s ts) (λ t rest. loop n t rest) (length ts) (less (ek s) ts) (λ t rest. loop_less n t rest))
-    ]
+  ]
 
   stay_got : (s : S) (ts : List Sym) (t : S) (rest : List Sym) → Got s ts ≡ Got t rest → Ends ts rest (λ w. Steps Spells s w t)
   stay_got s ts t rest e =
@@ -59,25 +59,25 @@ module _ {S : Type 0} (k : S → Phrase S) (next : S → Reader S) (stops : List
   pub loop_got : (n : ℕ) (s : S) (ts : List Sym) (t : S) (rest : List Sym) → loop n s ts ≡ Got t rest → Ends ts rest (λ w. Steps Spells s w t)
   loop_got zero s ts t rest e = stay_got s ts t rest (sym (none_left s ts) ∙ e)
   loop_got (suc n) s ts t rest e = elim (bool_is (stops ts)) [
-      inl q ↦ stay_got s ts t rest (sym (stay (suc n) s ts q) ∙ e)
+    | inl q ↦ stay_got s ts t rest (sym (stay (suc n) s ts q) ∙ e)
     | inr q ↦
-      (let m = then_got (next s ts) (λ t rest. loop n t rest) t rest (sym (turn n s ts q) ∙ e) in
-      let u = (ek s).got ts m.0 m.1 m.2 in
-      let v = loop_got n m.0 m.1 t rest m.3 in
-      record {
-        read = u.read ++ v.read;
-        is = u.is ∙ (ap (λ x. u.read ++ x) v.is ∙ sym (append_assoc u.read v.read rest));
-        holds = step m.0 u.read v.read refl u.holds v.holds;
-      })
-    ]
+        (let m = then_got (next s ts) (λ t rest. loop n t rest) t rest (sym (turn n s ts q) ∙ e) in
+        let u = (ek s).got ts m.0 m.1 m.2 in
+        let v = loop_got n m.0 m.1 t rest m.3 in
+        record {
+          read = u.read ++ v.read;
+          is = u.is ∙ (ap (λ x. u.read ++ x) v.is ∙ sym (append_assoc u.read v.read rest));
+          holds = step m.0 u.read v.read refl u.holds v.holds;
+        })
+  ]
 
   pub loop_fails : (n : ℕ) (s : S) (ts x : List Sym) → loop n s ts ≡ Fails x → Ends ts x (λ w. StepsFront Spells Front s w)
   loop_fails zero s ts x e = let bad : Got s ts ≡ Fails x = sym (none_left s ts) ∙ e in cc
   loop_fails (suc n) s ts x e = elim (bool_is (stops ts)) [
-      inl q ↦ (let bad : Got s ts ≡ Fails x = sym (stay (suc n) s ts q) ∙ e in cc)
+    | inl q ↦ (let bad : Got s ts ≡ Fails x = sym (stay (suc n) s ts q) ∙ e in cc)
     | inr q ↦ ⊎_elim
-      (λ bad. let u = (ek s).fails ts x bad in record { read = u.read; is = u.is; holds = now u.holds })
-      (λ m.
+        (λ bad. let u = (ek s).fails ts x bad in record { read = u.read; is = u.is; holds = now u.holds })
+        (λ m.
         let u = (ek s).got ts m.0 m.1 m.2 in
         let v = loop_fails n m.0 m.1 x m.3 in
         record {
@@ -85,8 +85,8 @@ module _ {S : Type 0} (k : S → Phrase S) (next : S → Reader S) (stops : List
           is = u.is ∙ (ap (λ y. u.read ++ y) v.is ∙ sym (append_assoc u.read v.read x));
           holds = later m.0 u.read v.read refl u.holds v.holds;
         })
-      (then_fails (next s ts) (λ t rest. loop n t rest) x (sym (turn n s ts q) ∙ e))
-    ]
+        (then_fails (next s ts) (λ t rest. loop n t rest) x (sym (turn n s ts q) ∙ e))
+  ]
 
   -- steps begin with a symbol with which a step begins
   pub steps_begin : (s t : S) (c : Sym) (w : List Sym) → Steps Spells s (c ∷ w) t → is_in sk (code c.class) ≡ true
@@ -130,8 +130,11 @@ module _ {S : Type 0} (k : S → Phrase S) (next : S → Reader S) (stops : List
 
   -- where a step is whole and its symbols are the last
   last_through : (n : ℕ) (s : S) (c : Sym) (f rest : List Sym) → (k s).front (c ∷ f) → left (loop (suc n) s (c ∷ f ++ rest)) ≤ length rest
-  last_through n s c f rest h = omega (arith, ap left (turn n s (c ∷ f ++ rest) (started c (f ++ rest) ((ek s).first c f h))),
-      then_less (next s (c ∷ f ++ rest)) (λ t rest. loop n t rest) (length rest) ((ek s).through (c ∷ f) h rest) (λ t rest. loop_less n t rest))
+  last_through n s c f rest h = omega (
+    arith,
+    ap left (turn n s (c ∷ f ++ rest) (started c (f ++ rest) ((ek s).first c f h))),
+    then_less (next s (c ∷ f ++ rest)) (λ t rest. loop n t rest) (length rest) ((ek s).through (c ∷ f) h rest) (λ t rest. loop_less n t rest),
+  )
 
   now_through : (s : S) (f : List Sym) → (k s).front f → (rest : List Sym) → (n : ℕ) → length (f ++ rest) ≤ n → left (loop n s (f ++ rest)) ≤ length rest
   now_through s [] h rest n le = loop_less n s rest
@@ -145,10 +148,12 @@ module _ {S : Type 0} (k : S → Phrase S) (next : S → Reader S) (stops : List
   loop_through {s = s} (later u (c ∷ before) [] e h more) rest (suc n) le =
       omega (arith, ap (λ x. left (loop (suc n) s x)) (ap (λ x. x ++ rest) e ∙ append_assoc (c ∷ before) [] rest), last_through n s c before rest ((ek s).whole (c ∷ before) u h))
   loop_through {s = s} (later u (c ∷ before) (d ∷ behind) e h more) rest (suc n) le =
-      omega (arith,
+      omega (
+        arith,
         ap (λ x. left (loop (suc n) s (x ++ rest))) e,
         ap left (one_turn n s u c before (d ∷ behind) rest h (apart_no sk gk (code d.class) parted (front_begins u d behind more))),
-        loop_through more rest n (omega (arith, ap (λ x. length (x ++ rest)) e, ap length (append_assoc before (d ∷ behind) rest), length-append before (d ∷ behind ++ rest))))
+        loop_through more rest n (omega (arith, ap (λ x. length (x ++ rest)) e, ap length (append_assoc before (d ∷ behind) rest), length-append before (d ∷ behind ++ rest))),
+      )
 
   pub clean_steps : {s t : S} {w : List Sym} → Steps Spells s w t → NoneRefused w
   clean_steps (done {ts = w} e) = clean_empty w e
@@ -168,12 +173,11 @@ module _ {S : Type 0} (k : S → Phrase S) (next : S → Reader S) (stops : List
 
 -- a repetition that ends where no step begins
 module _ {S : Type 0} (k : S → Phrase S) (next : S → Reader S) (stops : List Sym → Bool) (sk gk : List ℕ)
-         (ek : (s : S) → Exact (k s) (next s) sk (λ _. gk) true)
-         (started : (c : Sym) (ts : List Sym) → is_in sk (code c.class) ≡ true → stops (c ∷ ts) ≡ false)
-         (parted : apart sk gk ≡ true)
-         (g : S → List ℕ) (more : (t : S) → within gk (g t) ≡ true)
-         (ends : (t : S) (rest : List Sym) → Stops (g t) rest → stops rest ≡ true) where
-
+    (ek : (s : S) → Exact (k s) (next s) sk (λ _. gk) true)
+    (started : (c : Sym) (ts : List Sym) → is_in sk (code c.class) ≡ true → stops (c ∷ ts) ≡ false)
+    (parted : apart sk gk ≡ true)
+    (g : S → List ℕ) (more : (t : S) → within gk (g t) ≡ true)
+    (ends : (t : S) (rest : List Sym) → Stops (g t) rest → stops rest ≡ true) where
   pub repeat_exact : (s : S) → Exact (ph.repeat k s) (repeat stops next s) sk g false
   repeat_exact s = record {
     whole = λ w t h. steps_whole k next stops sk gk ek started parted h;
@@ -190,14 +194,13 @@ module _ {S : Type 0} (k : S → Phrase S) (next : S → Reader S) (stops : List
 
 -- a repetition, and what closes it
 module _ {S B : Type 0} (k : S → Phrase S) (next : S → Reader S) (stops : List Sym → Bool) (sk gk : List ℕ)
-         (ek : (s : S) → Exact (k s) (next s) sk (λ _. gk) true)
-         (started : (c : Sym) (ts : List Sym) → is_in sk (code c.class) ≡ true → stops (c ∷ ts) ≡ false)
-         (parted : apart sk gk ≡ true)
-         (q : S → Phrase B) (l : S → Reader B) (sq : List ℕ) (gq : B → List ℕ)
-         (eq : (s : S) → Exact (q s) (l s) sq gq true)
-         (closed : (c : Sym) (ts : List Sym) → is_in sq (code c.class) ≡ true → stops (c ∷ ts) ≡ true)
-         (closing : apart sq gk ≡ true) where
-
+    (ek : (s : S) → Exact (k s) (next s) sk (λ _. gk) true)
+    (started : (c : Sym) (ts : List Sym) → is_in sk (code c.class) ≡ true → stops (c ∷ ts) ≡ false)
+    (parted : apart sk gk ≡ true)
+    (q : S → Phrase B) (l : S → Reader B) (sq : List ℕ) (gq : B → List ℕ)
+    (eq : (s : S) → Exact (q s) (l s) sq gq true)
+    (closed : (c : Sym) (ts : List Sym) → is_in sq (code c.class) ≡ true → stops (c ∷ ts) ≡ true)
+    (closing : apart sq gk ≡ true) where
   until_got : (s : S) (ts : List Sym) (b : B) (rest : List Sym) → and_then (repeat stops next s ts) l ≡ Got b rest → Ends ts rest (λ w. Cut (λ us t. Steps (λ u. (k u).spells) s us t) (λ t us. (q t).spells us b) w)
   until_got s ts b rest e =
       let m = then_got (repeat stops next s ts) l b rest e in
@@ -213,13 +216,13 @@ module _ {S B : Type 0} (k : S → Phrase S) (next : S → Reader S) (stops : Li
   until_fails s ts x e = ⊎_elim
       (λ bad. let u = loop_fails k next stops sk gk ek started parted (length ts) s ts x bad in record { read = u.read; is = u.is; holds = inl u.holds })
       (λ m.
-        let u = loop_got k next stops sk gk ek started parted (length ts) s ts m.0 m.1 m.2 in
-        let v = (eq m.0).fails m.1 x m.3 in
-        record {
-          read = u.read ++ v.read;
-          is = u.is ∙ (ap (λ y. u.read ++ y) v.is ∙ sym (append_assoc u.read v.read x));
-          holds = inr (record { before = u.read; behind = v.read; value = m.0; is = refl; spelt = u.holds; follows = v.holds });
-        })
+      let u = loop_got k next stops sk gk ek started parted (length ts) s ts m.0 m.1 m.2 in
+      let v = (eq m.0).fails m.1 x m.3 in
+      record {
+        read = u.read ++ v.read;
+        is = u.is ∙ (ap (λ y. u.read ++ y) v.is ∙ sym (append_assoc u.read v.read x));
+        holds = inr (record { before = u.read; behind = v.read; value = m.0; is = refl; spelt = u.holds; follows = v.holds });
+      })
       (then_fails (repeat stops next s ts) l x e)
 
   -- behind the steps comes what closes them
@@ -237,16 +240,20 @@ module _ {S B : Type 0} (k : S → Phrase S) (next : S → Reader S) (stops : Li
 
   until_through_cut : (s t : S) (w u v : List Sym) → w ≡ u ++ v → Steps (λ u. (k u).spells) s u t → (q t).front v → (rest : List Sym) → left (and_then (repeat stops next s (w ++ rest)) l) ≤ length rest
   until_through_cut s t w u [] e h f rest =
-      omega (arith,
+      omega (
+        arith,
         ap (λ x. left (and_then (repeat stops next s x) l)) (ap (λ x. x ++ rest) e ∙ append_assoc u [] rest),
         then_less (repeat stops next s (u ++ rest)) l (length rest)
-          (loop_through k next stops sk gk ek started parted (steps_whole k next stops sk gk ek started parted h) rest (length (u ++ rest)) (omega arith))
-          (λ a ts. less (eq a) ts))
+            (loop_through k next stops sk gk ek started parted (steps_whole k next stops sk gk ek started parted h) rest (length (u ++ rest)) (omega arith))
+            (λ a ts. less (eq a) ts),
+      )
   until_through_cut s t w u (c ∷ v) e h f rest =
-      omega (arith,
+      omega (
+        arith,
         ap (λ x. left (and_then (repeat stops next s (x ++ rest)) l)) e,
         ap (λ o. left (and_then o l)) (to_close s t u c v rest h f),
-        (eq t).through (c ∷ v) f rest)
+        (eq t).through (c ∷ v) f rest,
+      )
 
   until_first : (s : S) (c : Sym) (ts u v : List Sym) (t : S) → c ∷ ts ≡ u ++ v → Steps (λ u. (k u).spells) s u t → (q t).front v → is_in (sk ++ sq) (code c.class) ≡ true
   until_first s c ts [] v t e h f = in_right sk sq (code c.class) ((eq t).first c ts (subst (λ l. (q t).front l) (sym e) f))
@@ -272,12 +279,12 @@ module _ {S B : Type 0} (k : S → Phrase S) (next : S → Reader S) (stops : Li
     fails = until_fails s;
     complete = λ w b c rest st. until_complete s c.value w c.before c.behind b c.is c.spelt c.follows rest st;
     through = λ f h rest. ⊎_elim
-      (λ x. then_less (repeat stops next s (f ++ rest)) l (length rest) (loop_through k next stops sk gk ek started parted x rest (length (f ++ rest)) (omega arith)) (λ a ts. less (eq a) ts))
-      (λ c. until_through_cut s c.value f c.before c.behind c.is c.spelt c.follows rest) h;
+        (λ x. then_less (repeat stops next s (f ++ rest)) l (length rest) (loop_through k next stops sk gk ek started parted x rest (length (f ++ rest)) (omega arith)) (λ a ts. less (eq a) ts))
+        (λ c. until_through_cut s c.value f c.before c.behind c.is c.spelt c.follows rest) h;
     closed = λ u v h. ⊎_elim
-      (λ x. inl (front_closed k next stops sk gk ek started parted x u v refl))
-      (λ c. until_closed s c.value u v c.before c.behind c.spelt c.follows (overlap u v c.before c.behind c.is)) h;
+        (λ x. inl (front_closed k next stops sk gk ek started parted x u v refl))
+        (λ c. until_closed s c.value u v c.before c.behind c.spelt c.follows (overlap u v c.before c.behind c.is)) h;
     clean = λ w h. ⊎_elim
-      (λ x. front_clean k next stops sk gk ek started parted x)
-      (λ c. subst NoneRefused (sym c.is) (clean_append c.before c.behind (clean_steps k next stops sk gk ek started parted c.spelt) ((eq c.value).clean c.behind c.follows))) h;
+        (λ x. front_clean k next stops sk gk ek started parted x)
+        (λ c. subst NoneRefused (sym c.is) (clean_append c.before c.behind (clean_steps k next stops sk gk ek started parted c.spelt) ((eq c.value).clean c.behind c.follows))) h;
   }

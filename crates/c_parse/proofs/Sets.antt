@@ -116,8 +116,8 @@ apart_no [] ys n e h = cc
 apart_no (x ∷ xs) ys n e h =
     let b = both_of (not (is_in ys x)) (apart xs ys) e in
     elim (bool_is (nat_eq x n)) [
-      inl q ↦ subst (λ m. is_in ys m ≡ false) (same_of x n q) (not_of (is_in ys x) b.0)
-    | inr q ↦ apart_no xs ys n b.1 (sym (ap (λ v. v || is_in xs n) q) ∙ h)
+      | inl q ↦ subst (λ m. is_in ys m ≡ false) (same_of x n q) (not_of (is_in ys x) b.0)
+      | inr q ↦ apart_no xs ys n b.1 (sym (ap (λ v. v || is_in xs n) q) ∙ h)
     ]
 
 pub within_in : (xs ys : List ℕ) (n : ℕ) → within xs ys ≡ true → is_in xs n ≡ true → is_in ys n ≡ true
@@ -125,8 +125,8 @@ within_in [] ys n e h = cc
 within_in (x ∷ xs) ys n e h =
     let b = both_of (is_in ys x) (within xs ys) e in
     elim (bool_is (nat_eq x n)) [
-      inl q ↦ subst (λ m. is_in ys m ≡ true) (same_of x n q) b.0
-    | inr q ↦ within_in xs ys n b.1 (sym (ap (λ v. v || is_in xs n) q) ∙ h)
+      | inl q ↦ subst (λ m. is_in ys m ≡ true) (same_of x n q) b.0
+      | inr q ↦ within_in xs ys n b.1 (sym (ap (λ v. v || is_in xs n) q) ∙ h)
     ]
 
 pub within_no : (xs ys : List ℕ) (n : ℕ) → within xs ys ≡ true → is_in ys n ≡ false → is_in xs n ≡ false
@@ -135,16 +135,16 @@ within_no xs ys n e h = elim (bool_is (is_in xs n)) [ inl q ↦ (let k = within_
 pub in_left : (xs ys : List ℕ) (n : ℕ) → is_in xs n ≡ true → is_in (xs ++ ys) n ≡ true
 in_left [] ys n h = cc
 in_left (x ∷ xs) ys n h = elim (bool_is (nat_eq x n)) [
-      inl q ↦ ap (λ v. v || is_in (xs ++ ys) n) q
-    | inr q ↦ ap (λ v. v || is_in (xs ++ ys) n) q ∙ in_left xs ys n (sym (ap (λ v. v || is_in xs n) q) ∙ h)
-    ]
+  | inl q ↦ ap (λ v. v || is_in (xs ++ ys) n) q
+  | inr q ↦ ap (λ v. v || is_in (xs ++ ys) n) q ∙ in_left xs ys n (sym (ap (λ v. v || is_in xs n) q) ∙ h)
+]
 
 pub in_right : (xs ys : List ℕ) (n : ℕ) → is_in ys n ≡ true → is_in (xs ++ ys) n ≡ true
 in_right [] ys n h = h
 in_right (x ∷ xs) ys n h = elim (bool_is (nat_eq x n)) [
-      inl q ↦ ap (λ v. v || is_in (xs ++ ys) n) q
-    | inr q ↦ ap (λ v. v || is_in (xs ++ ys) n) q ∙ in_right xs ys n h
-    ]
+  | inl q ↦ ap (λ v. v || is_in (xs ++ ys) n) q
+  | inr q ↦ ap (λ v. v || is_in (xs ++ ys) n) q ∙ in_right xs ys n h
+]
 
 pub no_left : (xs ys : List ℕ) (n : ℕ) → is_in (xs ++ ys) n ≡ false → is_in xs n ≡ false
 no_left xs ys n h = elim (bool_is (is_in xs n)) [ inl q ↦ (let k = in_left xs ys n q in cc) | inr q ↦ q ]
@@ -159,6 +159,6 @@ left_no false b e = refl
 pub in_either : (xs ys : List ℕ) (n : ℕ) → is_in (xs ++ ys) n ≡ true → (is_in xs n ≡ true) ⊎ (is_in ys n ≡ true)
 in_either [] ys n h = inr h
 in_either (x ∷ xs) ys n h = elim (bool_is (nat_eq x n)) [
-      inl q ↦ inl (ap (λ v. v || is_in xs n) q)
-    | inr q ↦ (elim (in_either xs ys n (sym (ap (λ v. v || is_in (xs ++ ys) n) q) ∙ h)) [ inl k ↦ inl (ap (λ v. v || is_in xs n) q ∙ k) | inr k ↦ inr k ])
-    ]
+  | inl q ↦ inl (ap (λ v. v || is_in xs n) q)
+  | inr q ↦ (elim (in_either xs ys n (sym (ap (λ v. v || is_in (xs ++ ys) n) q) ∙ h)) [ inl k ↦ inl (ap (λ v. v || is_in xs n) q ∙ k) | inr k ↦ inr k ])
+]

@@ -94,15 +94,17 @@ spelt_viable w t h = rp.steps_whole sc.one_more_item so.one_more_item is_over IT
 -- the symbol at which reading fails ends what is viable
 pub fails_ends : (ts : List Sym) (c : Sym) (x : List Sym) → items_read ts ≡ Fails (c ∷ x) → (before : List Sym) × EndsAt ts before c
 fails_ends ts c x e =
-    let u = fails_viable ts (c ∷ x) e in
-    (u.read, record {
-      behind = x;
-      is = u.is;
-      viable = λ front more q. viable_front front more (subst Viable q u.holds);
-      over = λ h. (let le = viable_left (u.read ++ c ∷ []) x h in
-        let same : (u.read ++ c ∷ []) ++ x ≡ ts = append_assoc u.read (c ∷ []) x ∙ sym u.is in
-        omega (arith, ap (λ l. left (items_read l)) same, ap left e));
-    })
+    let u = fails_viable ts (c ∷ x) e in (
+      u.read,
+      record {
+        behind = x;
+        is = u.is;
+        viable = λ front more q. viable_front front more (subst Viable q u.holds);
+        over = λ h. (let le = viable_left (u.read ++ c ∷ []) x h in
+            let same : (u.read ++ c ∷ []) ++ x ≡ ts = append_assoc u.read (c ∷ []) x ∙ sym u.is in
+            omega (arith, ap (λ l. left (items_read l)) same, ap left e));
+      },
+    )
 
 -- and what ends what is viable is where reading fails
 pub ends_fails : (ts before : List Sym) (c : Sym) (h : EndsAt ts before c) → items_read ts ≡ Fails (c ∷ h.behind)
@@ -110,12 +112,16 @@ ends_fails ts before c h = by (items_read ts) refl
   where
     whole : Viable before
     whole = h.viable before [] (sym (append-nil before))
+
     room : left (items_read ts) ≤ length (c ∷ h.behind)
     room = subst (λ l. left (items_read l) ≤ length (c ∷ h.behind)) (sym h.is) (viable_left before (c ∷ h.behind) whole)
+
     split : ts ≡ (before ++ c ∷ []) ++ h.behind
     split = h.is ∙ sym (append_assoc before (c ∷ []) h.behind)
+
     no_more : (m v : List Sym) → Viable ((before ++ c ∷ []) ++ m) → ⊥
     no_more m v k = h.over (viable_front (before ++ c ∷ []) m k)
+
     same_cut : (read x : List Sym) → ts ≡ read ++ x → Viable read → length x ≤ length (c ∷ h.behind) → Overlap (before ++ c ∷ []) h.behind read x → x ≡ c ∷ h.behind
     same_cut read x e k le (within_first m q) = absurd (no_more m x (subst Viable q k))
     same_cut read x e k le (over_first [] q z) = absurd (h.over (subst Viable (sym (append-nil read) ∙ sym q) k))
@@ -123,6 +129,7 @@ ends_fails ts before c h = by (items_read ts) refl
       where
         at_last : (read : List Sym) (d : Sym) (m x : List Sym) → before ++ c ∷ [] ≡ read ++ d ∷ m → x ≡ (d ∷ m) ++ h.behind → length x ≤ length (c ∷ h.behind) → x ≡ c ∷ h.behind
         at_last read d m x q z le = last_of read before c d m x h.behind q z le
+
     by : (o : Read (List x.Item)) → items_read ts ≡ o → items_read ts ≡ Fails (c ∷ h.behind)
     by (Got t rest) e = (let k = read_spelt ts t rest e in absurd (h.over (viable_front (before ++ c ∷ []) h.behind (subst Viable split (spelt_viable ts t k.1)))))
     by (Fails x) e = (let u = fails_viable ts x e in e ∙ ap Fails (same_cut u.read x u.is u.holds (omega (arith, ap left e, room)) (overlap (before ++ c ∷ []) h.behind u.read x (sym split ∙ u.is))))

@@ -68,6 +68,7 @@ star_exact b = by (is_number b)
   where
     stays : (ts : List Sym) → Got false (behind_if false ts) ≡ Got false ts
     stays ts = ap (Got false) (not_behind ts)
+
     by : (n : Bool) → Exact (flag_if n (one_if is_star (λ _. tt))) (λ ts. Got (n && is_star (class_at ts)) (behind_if (n && is_star (class_at ts)) ts)) STARS (λ _. STARS) false
     by true = flag_exact is_star STARS in_stars refl refl
     by false = widen STARS (λ _. STARS) (by_reader _ (give_exact false) stays) refl (λ _. refl)
@@ -97,16 +98,19 @@ pub commas_exact : {A : Type 0} {p : Phrase A} {r : Reader A} {s gp : List ℕ} 
 unfolding sees
 commas_exact {A} {p} {r} {s} {gp} e h found = by_reader _
     (repeat_exact (gr.one_more p) (one_more_of r) no_comma (37 ∷ []) gp
-      (λ found. token_then (mark_exact mark.Comma) (λ _. map_same (λ x. found ++ x ∷ []) e))
-      started h (λ _. 37 ∷ gp) (λ t. within_when gp (37 ∷ gp) (λ n k. later n k)) ends found)
+    (λ found. token_then (mark_exact mark.Comma) (λ _. map_same (λ x. found ++ x ∷ []) e))
+    started h (λ _. 37 ∷ gp) (λ t. within_when gp (37 ∷ gp) (λ n k. later n k)) ends found)
     (λ ts. repeat_is no_comma (rd.one_more r) (one_more_of r) (λ found us k. comma_seen r found us k) (length ts) found ts)
   where
     started : (c : Sym) (ts : List Sym) → is_in (37 ∷ []) (code c.class) ≡ true → no_comma (c ∷ ts) ≡ false
     started c ts k = ap not (sym (in_mark mark.Comma c.class) ∙ k)
+
     later : (n : ℕ) → is_in gp n ≡ true → is_in (37 ∷ gp) n ≡ true
     later n k = ap (λ b. nat_eq 37 n || b) k ∙ or_true (nat_eq 37 n)
+
     first_no : (n : ℕ) → is_in (37 ∷ gp) n ≡ false → is_in (37 ∷ []) n ≡ false
     first_no n k = left_no (nat_eq 37 n) (is_in gp n) k
+
     ends : (t : List A) (rest : List Sym) → Stops (37 ∷ gp) rest → no_comma rest ≡ true
     ends t [] k = refl
     ends t (c ∷ rest) k = ap not (sym (in_mark mark.Comma c.class) ∙ first_no (code c.class) k)
@@ -117,8 +121,10 @@ separated_exact {A} {p} {r} {s} {gp} e h = widen s (λ _. 37 ∷ gp) (seq_maybe 
   where
     later : (n : ℕ) → is_in gp n ≡ true → is_in (37 ∷ gp) n ≡ true
     later n k = ap (λ b. nat_eq 37 n || b) k ∙ or_true (nat_eq 37 n)
+
     both : (n : ℕ) → (is_in (37 ∷ gp) n ≡ true) ⊎ (is_in gp n ≡ true) → is_in (37 ∷ gp) n ≡ true
     both n (inl k) = k
     both n (inr k) = later n k
+
     all : within ((37 ∷ gp) ++ gp) (37 ∷ gp) ≡ true
     all = within_when ((37 ∷ gp) ++ gp) (37 ∷ gp) (λ n k. both n (in_either (37 ∷ gp) gp n k))

@@ -51,7 +51,6 @@ abbrev pub readers : Bool → (Part → Reader x.Expr) → ex.Nest
 readers deep br = record { deep = deep; below = br }
 
 module _ (bp : Part → Phrase x.Expr) (br : Part → Reader x.Expr) (eb : Below bp br) where
-
   -- ---- names and calls
 
   arguments_exact : (deep : Bool) → Exact (gr.arguments (phrases deep bp)) (ex.arguments (readers deep br)) (31 ∷ EXPR) (λ _. []) true
@@ -89,7 +88,7 @@ module _ (bp : Part → Phrase x.Expr) (br : Part → Reader x.Expr) (eb : Below
 
   abbrev atom_reader : Bool → Place → Reader x.Expr
   atom_reader deep at = pick (0 ∷ 1 ∷ []) (pick (0 ∷ []) (name >>= ex.named (readers deep br) at) (take_one (λ s. number_as s.class) >>= (λ n. pure (x.Number at n.0 n.1))))
-    (take_one (λ s. if is_text s.class then Some s.bytes else None) >>= (λ text. pure (x.Text at text)))
+      (take_one (λ s. if is_text s.class then Some s.bytes else None) >>= (λ text. pure (x.Text at text)))
 
   primary_is_at : (deep : Bool) (at a : Place) (c : Class) (b : List ℕ) (n : List (List ℕ)) (ts : List Sym) → ex.primary (readers deep br) at (record { at = a; class = c; bytes = b; names = n } ∷ ts) ≡ atom_reader deep at (record { at = a; class = c; bytes = b; names = n } ∷ ts)
   unfolding ex.primary name
@@ -121,7 +120,7 @@ module _ (bp : Part → Phrase x.Expr) (br : Part → Reader x.Expr) (eb : Below
 
   abbrev step_reader : Bool → Place → x.Expr → Reader x.Expr
   step_reader deep at operand = pick (8 ∷ 38 ∷ []) (pick (8 ∷ []) (take_one (λ s. change_as s.class) >>= (λ c. pure (x.Postfix at c operand))) (expect mark.Dot >>= (λ _. ex.field (readers deep br) at operand)))
-    (if deep then (expect mark.OpenSquare >>= (λ _. ex.index (readers deep br) at operand)) else refuse)
+      (if deep then (expect mark.OpenSquare >>= (λ _. ex.index (readers deep br) at operand)) else refuse)
 
   step_exact : (deep : Bool) (at : Place) (operand : x.Expr) → Exact (gr.postfix_step (phrases deep bp) at operand) (step_reader deep at operand) (8 ∷ 38 ∷ 32 ∷ []) (λ _. []) true
   unfolding gr.postfix_step
@@ -260,7 +259,7 @@ module _ (bp : Part → Phrase x.Expr) (br : Part → Reader x.Expr) (eb : Below
   arranged deep at =
       gr.signed (phrases deep bp) at
       or (when deep (ph.◌>>◌ (mark_ mark.Open) (cast_rest at or group_rest deep at))
-        or (gr.size_of (phrases deep bp) at or ph.◌>>=◌ (atom deep at) (steps_ deep at)))
+      or (gr.size_of (phrases deep bp) at or ph.◌>>=◌ (atom deep at) (steps_ deep at)))
 
   abbrev arranged_reader : Bool → Place → Reader x.Expr
   arranged_reader deep at =

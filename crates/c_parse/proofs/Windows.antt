@@ -155,18 +155,18 @@ module _ {A : Type 0} (n : ℕ) (p : Phrase A) (r : Reader A) (s : List ℕ) (g 
   through_in f h le rest true o =
       let e : within n r (f ++ rest) ≡ Fails (drop n (f ++ rest)) = opened (f ++ rest) ∙ if_yes (nat_lt n (took (f ++ rest))) _ _ o in
       ⊎_elim
-        (λ d. omega (arith, ap left e, length-append f rest, d))
-        (λ d. omega (arith, ap left e, ap length d.1))
-        (drop_length n (f ++ rest))
+      (λ d. omega (arith, ap left e, length-append f rest, d))
+      (λ d. omega (arith, ap left e, ap length d.1))
+      (drop_length n (f ++ rest))
   through_in f h le rest false o =
       let e : take (n + 1) (f ++ rest) ≡ f ++ take (n + 1 - length f) rest = take_over f rest (n + 1 - length f) (n + 1) (omega arith) in
       let k : left (r (take (n + 1) (f ++ rest))) ≤ length (take (n + 1 - length f) rest) = subst (λ l. left (r l) ≤ length (take (n + 1 - length f) rest)) (sym e) (ep.through f h (take (n + 1 - length f) rest)) in
       let t : length f ≤ took (f ++ rest) = omega (arith, ap length e, end_left (r (take (n + 1) (f ++ rest))), length-append f (take (n + 1 - length f) rest)) in
       let q : within n r (f ++ rest) ≡ ending_at (drop (took (f ++ rest)) (f ++ rest)) (r (take (n + 1) (f ++ rest))) = opened (f ++ rest) ∙ if_no (nat_lt n (took (f ++ rest))) _ _ o in
       ⊎_elim
-        (λ d. omega (arith, ap left q, left_ending (drop (took (f ++ rest)) (f ++ rest)) (r (take (n + 1) (f ++ rest))), length-append f rest, d))
-        (λ d. omega (arith, ap left q, left_ending (drop (took (f ++ rest)) (f ++ rest)) (r (take (n + 1) (f ++ rest))), ap length d.1))
-        (drop_length (took (f ++ rest)) (f ++ rest))
+      (λ d. omega (arith, ap left q, left_ending (drop (took (f ++ rest)) (f ++ rest)) (r (take (n + 1) (f ++ rest))), length-append f rest, d))
+      (λ d. omega (arith, ap left q, left_ending (drop (took (f ++ rest)) (f ++ rest)) (r (take (n + 1) (f ++ rest))), ap length d.1))
+      (drop_length (took (f ++ rest)) (f ++ rest))
     where
       left_ending : (l : List Sym) (o : Read A) → left (ending_at l o) ≡ length l
       left_ending l (Got a x) = refl

@@ -95,7 +95,7 @@ arguments_param at = do
   key_ key.Char
   star_
   (do star_; called ← name_; give (record { at = at; param_type = Arguments; name = called }))
-    or (do called ← name_; mark_ mark.OpenSquare; mark_ mark.CloseSquare; give (record { at = at; param_type = Arguments; name = called }))
+      or (do called ← name_; mark_ mark.OpenSquare; mark_ mark.CloseSquare; give (record { at = at; param_type = Arguments; name = called }))
 
 unfoldable pub param : Phrase Param
 param = placed (λ at. arguments_param at or typed_param at)

@@ -1,6 +1,6 @@
 //! Why reading stops.
-use std::alloc::{AllocError, AllocFailed};
 use mpc_base::Memory;
+use std::alloc::{AllocError, AllocFailed};
 
 /// Why there is no tree.
 #[derive(Clone, Copy, Debug, PartialEq, Eq)]
