@@ -36,7 +36,7 @@ fn parsed(alloc: Global, src: &str) -> Result<Result<Tree, Verdict>, Memory> {
     }
 }
 
-fn verdict(alloc: Global, src: &str) -> Result<Verdict, Memory> {
+fn answered(alloc: Global, src: &str) -> Result<Verdict, Memory> {
     match parsed(alloc, src)? {
         Ok(_) => Ok(Verdict::Tree),
         Err(verdict) => Ok(verdict),

@@ -1,6 +1,6 @@
 //! Sources that are accepted, and sources that are refused with the places worked out by hand from the
 //! grammar.
-use super::{Verdict, verdict};
+use super::{Verdict, answered};
 use std::test::Fail;
 
 #[test]
@@ -36,7 +36,7 @@ fn each_production_and_condition_is_accepted(rt: HostRuntime) -> Result<(), Fail
         "int f(void) { - + ! ~ * & ++ -- a = b; a ? b : c; }",
     ];
     for src in cases {
-        assert_eq!(rt; verdict(rt.alloc(), src)?, Verdict::Tree, "{src}");
+        assert_eq!(rt; answered(rt.alloc(), src)?, Verdict::Tree, "{src}");
     }
     Ok(())
 }
@@ -165,7 +165,7 @@ fn each_refusal_at_the_first_wrong_token(rt: HostRuntime) -> Result<(), Fail> {
     ];
     for (src, line, col) in cases {
         assert_eq!(rt;
-            verdict(rt.alloc(), src)?,
+            answered(rt.alloc(), src)?,
             Verdict::Syntax(line, col),
             "{src}"
         );
@@ -186,7 +186,7 @@ fn a_refused_pragma_by_its_line(rt: HostRuntime) -> Result<(), Fail> {
         ("int a;\n#pragma omp hls\n#pragma hls numa(a) nowait", 3),
     ];
     for (src, line) in cases {
-        assert_eq!(rt; verdict(rt.alloc(), src)?, Verdict::Pragma(line), "{src}");
+        assert_eq!(rt; answered(rt.alloc(), src)?, Verdict::Pragma(line), "{src}");
     }
     Ok(())
 }

@@ -53,6 +53,7 @@ fn put(out: &mut Vec<u8>, text: &str) -> Result<(), Memory> {
 }
 
 // Two operands with a sign between them, in brackets.
+#[cycle(put)]
 fn put_two(left: &Expr, sign: &str, right: &Expr, out: &mut Vec<u8>) -> Result<(), Memory> {
     put(out, "(")?;
     put_expr(left, out)?;
@@ -62,6 +63,7 @@ fn put_two(left: &Expr, sign: &str, right: &Expr, out: &mut Vec<u8>) -> Result<(
 }
 
 // The expression with brackets around all that is made of more than one.
+#[cycle(put)]
 fn put_expr(expr: &Expr, out: &mut Vec<u8>) -> Result<(), Memory> {
     match expr {
         Expr::Name(_, name) => {
