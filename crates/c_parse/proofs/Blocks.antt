@@ -1,5 +1,5 @@
 -- The common cases of the lemmas on phrases: a symbol and what stands behind it, two phrases behind one another, a test and its two branches, lists with commas.
-use Rattle.std.proofs.Common.{◌≡◌, ℕ, zero, suc, ◌+◌, ◌⊎◌, inl, inr, ⊎_elim, ◌≤◌, ◌<◌, Bool, true, false, if◌then◌else◌, ◌&&◌, ◌||◌, not, nat_eq, is_some, List, [], ◌∷◌, ◌++◌, length, Option, Some, None, refl, sym, ap, ◌∙◌, subst, append_assoc, arith, length-append}
+use Rattle.std.proofs.Common.{◌≡◌, ℕ, zero, suc, inl, inr, Bool, true, false, if◌then◌else◌, ◌&&◌, ◌||◌, nat_eq, is_some, List, [], ◌∷◌, ◌++◌, Option, Some, None, refl, sym, ap, ◌∙◌, subst, arith}
 use Rattle.std.proofs.lemmas.List.{append-nil}
 use Rattle.std.proofs.lemmas.Bool.Decides.{nat_tests}
 use Rattle.c_parse.specs.declared.symbols.Class.{Class}
@@ -12,15 +12,12 @@ use Rattle.c_parse.specs.Symbols.{Sym}
 use Rattle.c_parse.specs.Signs.{is_mark, is_key, is_name}
 use Rattle.c_parse.specs.Phrases.{Phrase, nothing, give, one, ◌or◌}
 use Rattle.c_parse.specs.Phrases as ph
-use Rattle.c_parse.specs.Reading.{Read, Got, Fails, Reader, and_then, ◌>>=◌, pure, refuse, class_at, bytes_at, behind, sees, sees_key, behind_if, eat, eat_key, expect, expect_key, name, repeat_from, repeat, no_comma}
-use Rattle.c_parse.specs.Reading as rd
-use Rattle.c_parse.specs.Grammar.{one_if, one_as, mark_, key_, name_, flag, when, separated}
-use Rattle.c_parse.specs.Grammar as gr
+use Rattle.c_parse.specs.Reading.{Read, Got, Fails, Reader, and_then, ◌>>=◌, pure, refuse, class_at, behind, sees, sees_key, behind_if, eat, eat_key, expect, expect_key, name, repeat_from}
+use Rattle.c_parse.specs.Grammar.{one_if, one_as, mark_, key_, name_, flag, when}
 use Rattle.c_parse.proofs.Sets.{code, mark_code, key_code, is_in, apart, within, bool_is, apart_no, in_left, in_right}
 use Rattle.c_parse.proofs.Tests.{in_mark, in_key, in_names, NAMES}
-use Rattle.c_parse.proofs.Exact.{Exact, Stops, left, bind_exact, give_exact, nothing_exact, one_exact, take_one, taken}
-use Rattle.c_parse.proofs.Choices.{widen, by_reader, by_phrase, or_exact}
-use Rattle.c_parse.proofs.Repeats.{repeat_exact}
+use Rattle.c_parse.proofs.Exact.{Exact, bind_exact, give_exact, nothing_exact, one_exact, take_one, taken}
+use Rattle.c_parse.proofs.Choices.{widen, by_reader, or_exact}
 
 -- ---- sets
 

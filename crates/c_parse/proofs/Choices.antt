@@ -1,13 +1,13 @@
 -- Choices, phrases that know where they begin, wider sets, and other readers and phrases that are the same.
-use Rattle.std.proofs.Common.{◌≡◌, ℕ, zero, suc, ◌+◌, ◌⊎◌, inl, inr, ⊎_elim, ◌≤◌, ◌<◌, Bool, true, false, ◌&&◌, ◌||◌, not, List, [], ◌∷◌, ◌++◌, length, Option, Some, None, refl, sym, ap, ◌∙◌, subst, append_assoc, arith, length-append}
+use Rattle.std.proofs.Common.{◌≡◌, ℕ, ◌⊎◌, inl, inr, ⊎_elim, ◌≤◌, Bool, true, false, List, [], ◌∷◌, ◌++◌, length, refl, sym, ap, ◌∙◌, subst, append_assoc, arith}
 use Rattle.std.proofs.lemmas.List.{append-nil}
 use Rattle.c_tree.specs.declared.syntax.Place.{Place}
 use Rattle.c_parse.specs.Symbols.{Sym}
 use Rattle.c_parse.specs.Phrases.{Phrase, Cut, nothing, give, one, ◌or◌, place_of, placed}
 use Rattle.c_parse.specs.Phrases as ph
-use Rattle.c_parse.specs.Reading.{Read, Got, Fails, Reader, and_then, ◌>>=◌, pure, here, place_at}
-use Rattle.c_parse.proofs.Sets.{code, is_in, apart, within, bool_is, apart_no, within_in, within_no, in_left, in_right, no_left, no_right}
-use Rattle.c_parse.proofs.Exact.{Exact, Ends, Stops, left, less, then_got, then_fails, then_less}
+use Rattle.c_parse.specs.Reading.{Got, Fails, Reader, ◌>>=◌, here, place_at}
+use Rattle.c_parse.proofs.Sets.{code, is_in, apart, within, bool_is, apart_no, within_in, within_no, in_left, in_right}
+use Rattle.c_parse.proofs.Exact.{Exact, Ends, Stops, left, less}
 
 -- ---- larger sets
 

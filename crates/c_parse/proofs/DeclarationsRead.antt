@@ -1,9 +1,9 @@
 -- Declarations and parameters are read exactly.
-use Rattle.std.proofs.Common.{◌≡◌, ℕ, zero, suc, Bool, true, false, if◌then◌else◌, ◌&&◌, ◌||◌, not, List, [], ◌∷◌, ◌++◌, length, Option, Some, None, refl, sym, ap, ◌∙◌, subst}
+use Rattle.std.proofs.Common.{◌≡◌, ℕ, Bool, true, false, if◌then◌else◌, List, [], ◌∷◌, Option, Some, None, refl, sym, ap, ◌∙◌}
 use Rattle.c_tree.specs.declared.syntax.Place.{Place}
 use Rattle.c_tree.specs.declared.syntax.Base.{Base}
 use Rattle.c_tree.specs.declared.syntax.Param.{Param}
-use Rattle.c_tree.specs.declared.syntax.ParamType.TheVariants.{Plain, Array, Arguments}
+use Rattle.c_tree.specs.declared.syntax.ParamType.TheVariants.{Arguments}
 use Rattle.c_tree.specs.Syntax as x
 use Rattle.c_parse.specs.declared.symbols.Class.{Class}
 use Rattle.c_parse.specs.declared.symbols.Class.TheVariants as class
@@ -18,14 +18,12 @@ use Rattle.c_parse.specs.Reading.{Read, Got, Fails, Reader, and_then, ◌>>=◌,
 use Rattle.c_parse.specs.Reading as rd
 use Rattle.c_parse.specs.Expressions as ex
 use Rattle.c_parse.specs.Declarations as dc
-use Rattle.c_parse.specs.Grammar.{one_if, mark_, key_, name_, flag}
-use Rattle.c_parse.specs.Grammar as gr
+use Rattle.c_parse.specs.Grammar.{mark_, name_}
 use Rattle.c_parse.specs.DeclarationGrammar as dg
-use Rattle.c_parse.proofs.Sets.{code, is_in, apart, within}
-use Rattle.c_parse.proofs.Tests.{in_mark, in_key, in_equals, EQUALS, in_stars, STARS, BASES, NAMES}
-use Rattle.c_parse.proofs.Exact.{Exact, Stops, give_exact, take_one, taken}
-use Rattle.c_parse.proofs.Choices.{Same, widen, by_reader, by_phrase, placed_exact, same_sym, or_group}
-use Rattle.c_parse.proofs.Blocks.{token_then, seq, maybe_seq, seq_maybe, maybe_both, map_same, one_if_exact, mark_exact, key_exact, name_exact, flag_key_exact, branch_exact, branch, eaten, regroup_read, then_same, within_self, took}
+use Rattle.c_parse.proofs.Tests.{in_mark, in_key, in_equals, EQUALS, in_stars, STARS, BASES}
+use Rattle.c_parse.proofs.Exact.{Exact, give_exact, take_one}
+use Rattle.c_parse.proofs.Choices.{widen, by_reader, by_phrase, placed_exact, same_sym, or_group}
+use Rattle.c_parse.proofs.Blocks.{token_then, seq, maybe_seq, maybe_both, map_same, one_if_exact, mark_exact, name_exact, flag_key_exact, branch_exact, eaten, regroup_read, then_same, took}
 use Rattle.c_parse.proofs.TypesRead.{type_base_exact, star_exact, separated_exact}
 use Rattle.c_parse.proofs.UnaryRead.{EXPR, after}
 use Rattle.c_parse.proofs.ExpressionsRead.{expression_exact}

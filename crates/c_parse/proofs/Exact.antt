@@ -1,13 +1,12 @@
 -- When a reader reads a phrase exactly, and that it does so where its parts do.
-use Rattle.std.proofs.Common.{◌≡◌, ℕ, zero, suc, ◌+◌, ◌⊎◌, inl, inr, ⊎_elim, ◌≤◌, ◌<◌, Bool, true, false, cond, ◌&&◌, ◌||◌, not, List, [], ◌∷◌, ◌++◌, length, Option, Some, None, refl, sym, ap, ◌∙◌, subst, append_assoc, arith, length-append}
-use Rattle.std.proofs.lemmas.List.{append-nil}
+use Rattle.std.proofs.Common.{◌≡◌, ℕ, ◌⊎◌, inl, inr, ⊎_elim, ◌≤◌, Bool, true, false, List, [], ◌∷◌, ◌++◌, length, Option, Some, None, refl, sym, ap, ◌∙◌, subst, append_assoc, arith}
 use Rattle.c_parse.specs.declared.symbols.Class.TheVariants as class
 use Rattle.c_parse.specs.Symbols.{Sym}
 use Rattle.c_parse.specs.Parsed.{NoneRefused}
 use Rattle.c_parse.specs.Phrases.{Phrase, Cut, IsOne, nothing, give, one, ◌or◌, place_of, placed, Steps, StepsFront}
 use Rattle.c_parse.specs.Phrases as ph
 use Rattle.c_parse.specs.Reading.{Read, Got, Fails, Reader, and_then, ◌>>=◌, pure}
-use Rattle.c_parse.proofs.Sets.{code, is_in, apart, within, bool_is, apart_no, within_in, within_no, in_left, in_right, no_left, no_right}
+use Rattle.c_parse.proofs.Sets.{code, is_in, within, within_in, within_no}
 
 -- how many symbols are left where a reader ends
 abbrev pub left : {A : Type 0} → Read A → ℕ

@@ -1,5 +1,5 @@
 -- Binary, conditional and assignment expressions are read exactly, and so are expressions of every depth.
-use Rattle.std.proofs.Common.{◌≡◌, ℕ, zero, suc, ◌<◌, ◌≤◌, arith, Bool, true, false, if◌then◌else◌, ◌&&◌, ◌||◌, not, ◌⊎◌, inl, inr, ⊎_elim, List, [], ◌∷◌, ◌++◌, length, Option, Some, None, is_some, refl, sym, ap, ◌∙◌, subst}
+use Rattle.std.proofs.Common.{◌≡◌, ℕ, zero, suc, ◌<◌, ◌≤◌, arith, Bool, true, false, not, List, [], ◌∷◌, ◌++◌, length, Option, Some, None, refl, sym, ap, ◌∙◌}
 use Rattle.c_tree.specs.declared.syntax.Place.{Place}
 use Rattle.c_tree.specs.declared.syntax.Binary.{Binary}
 use Rattle.c_tree.specs.declared.syntax.Binary.TheVariants as binary
@@ -19,10 +19,10 @@ use Rattle.c_parse.specs.Reading as rd
 use Rattle.c_parse.specs.Expressions as ex
 use Rattle.c_parse.specs.Grammar.{one_if, one_as, mark_}
 use Rattle.c_parse.specs.Grammar as gr
-use Rattle.c_parse.proofs.Sets.{code, is_in, apart, within, bool_is, within_no}
+use Rattle.c_parse.proofs.Sets.{code, is_in, apart, within, within_no}
 use Rattle.c_parse.proofs.Tests.{in_mark, in_level, in_assigns, ASSIGNS, level_codes, tighter_codes}
 use Rattle.c_parse.proofs.Exact.{Exact, Stops, left, give_exact, nothing_exact, take_one, taken}
-use Rattle.c_parse.proofs.Choices.{Same, widen, by_reader, by_phrase, or_exact, placed_exact, same_refl, same_sym, same_trans, same_bind, same_or, same_placed, factor, regroup, then_give}
+use Rattle.c_parse.proofs.Choices.{Same, widen, by_reader, by_phrase, or_exact, placed_exact, same_refl, same_sym, same_trans, same_bind, same_or, factor, regroup, then_give}
 use Rattle.c_parse.proofs.Repeats.{repeat_exact}
 use Rattle.c_parse.proofs.Blocks.{token_then, seq, seq_maybe, maybe_both, map_same, one_as_exact, mark_exact, branch_exact, eaten, repeat_is}
 use Rattle.c_parse.proofs.Windows.{at_most_exact}

@@ -1,9 +1,8 @@
 -- The items of a source are read exactly.
-use Rattle.std.proofs.Common.{◌≡◌, ℕ, zero, suc, inl, inr, Bool, true, false, if◌then◌else◌, ◌&&◌, ◌||◌, not, List, [], ◌∷◌, ◌++◌, length, Option, Some, None, refl, sym, ap, ◌∙◌, subst}
+use Rattle.std.proofs.Common.{◌≡◌, ℕ, inl, Bool, true, false, if◌then◌else◌, List, [], ◌∷◌, ◌++◌, Some, None, refl, sym, ◌∙◌}
 use Rattle.mpc_base.specs.declared.owners.Level.{Level}
 use Rattle.c_tree.specs.declared.syntax.Place.{Place}
 use Rattle.c_tree.specs.declared.syntax.Base.{Base}
-use Rattle.c_tree.specs.declared.syntax.TypeName.{TypeName}
 use Rattle.c_tree.specs.declared.syntax.Returns.{Returns}
 use Rattle.c_tree.specs.declared.syntax.Returns.TheVariants.{Void, Value}
 use Rattle.c_tree.specs.declared.syntax.Binary.TheVariants as binary
@@ -21,22 +20,20 @@ use Rattle.c_parse.specs.Reading.{Read, Got, Fails, Reader, and_then, ◌>>=◌,
 use Rattle.c_parse.specs.Reading as rd
 use Rattle.c_parse.specs.Expressions as ex
 use Rattle.c_parse.specs.Declarations as dc
-use Rattle.c_parse.specs.Statements as st
 use Rattle.c_parse.specs.Sources as so
 use Rattle.c_parse.specs.Sources.{most_deep}
 use Rattle.c_parse.specs.Grammar.{one_if, mark_, key_, name_, flag}
 use Rattle.c_parse.specs.Grammar as gr
 use Rattle.c_parse.specs.DeclarationGrammar as dg
-use Rattle.c_parse.specs.StatementGrammar as sg
 use Rattle.c_parse.specs.SourceGrammar.{scope_as, scope_by}
 use Rattle.c_parse.specs.SourceGrammar as sc
-use Rattle.c_parse.proofs.Sets.{code, is_in, apart, within}
-use Rattle.c_parse.proofs.Tests.{in_mark, in_key, BASES, NAMES, STARS}
-use Rattle.c_parse.proofs.Exact.{Exact, Stops, give_exact, one_exact, take_one, taken}
-use Rattle.c_parse.proofs.Choices.{Same, widen, by_reader, by_phrase, or_exact, placed_exact, same_refl, same_sym, same_trans, same_bind, same_or, same_placed, or_then, or_group, or_swap, factor, regroup, give_then, placed_then, turn_round}
-use Rattle.c_parse.proofs.Blocks.{token_then, seq, maybe_seq, map_same, mark_exact, key_exact, name_exact, flag_key_exact, branch_exact, eaten, regroup_read, then_same, within_self, if_yes_at, if_no_at}
+use Rattle.c_parse.proofs.Sets.{code, is_in}
+use Rattle.c_parse.proofs.Tests.{in_mark, in_key, BASES, NAMES}
+use Rattle.c_parse.proofs.Exact.{Exact, give_exact, one_exact, take_one}
+use Rattle.c_parse.proofs.Choices.{Same, by_reader, by_phrase, or_exact, placed_exact, same_refl, same_sym, same_trans, same_bind, same_or, same_placed, or_then, or_group, factor, regroup, give_then, placed_then, turn_round}
+use Rattle.c_parse.proofs.Blocks.{token_then, seq, maybe_seq, map_same, mark_exact, name_exact, flag_key_exact, branch_exact, eaten, regroup_read, then_same, if_yes_at, if_no_at}
 use Rattle.c_parse.proofs.TypesRead.{type_base_exact, star_exact, commas_exact}
-use Rattle.c_parse.proofs.UnaryRead.{EXPR, after}
+use Rattle.c_parse.proofs.UnaryRead.{after}
 use Rattle.c_parse.proofs.DeclarationsRead.{declared_exact, declarator_exact, params_exact}
 use Rattle.c_parse.proofs.StatementsRead.{block_exact}
 

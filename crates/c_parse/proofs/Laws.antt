@@ -1,11 +1,10 @@
 -- What the tokens of a source spell, and where they are refused: at most one of the two, and at most one way.
-use Rattle.std.proofs.Common.{◌≡◌, ℕ, ◌+◌, ◌≤◌, arith, Bool, true, false, ◌⊎◌, inl, inr, ⊎_elim, List, [], ◌∷◌, ◌++◌, length, refl, sym, ap, ◌∙◌, subst}
+use Rattle.std.proofs.Common.{◌≡◌, ℕ, arith, Bool, List, [], ◌∷◌, ◌++◌, refl, sym, ap, ◌∙◌, subst}
 use Rattle.std.proofs.lemmas.List.{append-nil}
 use Rattle.c_lex.specs.declared.tokens.Token.{Token}
 use Rattle.c_lex.specs.declared.tokens.Kind.{Kind}
 use Rattle.c_lex.specs.declared.tokens.Kind.TheVariants as kind
 use Rattle.c_lex.specs.Places.{behind, start}
-use Rattle.hls_pragma.specs.declared.directives.NameSpan.{NameSpan}
 use Rattle.hls_pragma.specs.declared.directives.Pragma.{Pragma}
 use Rattle.hls_pragma.specs.declared.directives.Pragma.TheVariants as pragma
 use Rattle.hls_pragma.specs.Reads.{Reads}
@@ -20,9 +19,9 @@ use Rattle.c_parse.specs.Reading.{Read, Got, Fails, and_then, pure}
 use Rattle.c_parse.specs.Sources as so
 use Rattle.c_parse.specs.Sources.{last_line}
 use Rattle.c_parse.specs.SourceGrammar as sc
-use Rattle.c_parse.specs.Parsed.{Spelt, Viable, NoneRefused, EndsAt, RefusedAt, at_symbol, at_end, at_pragma}
+use Rattle.c_parse.specs.Parsed.{Spelt, Viable, NoneRefused, RefusedAt, at_symbol, at_end, at_pragma}
 use Rattle.c_parse.proofs.Exact.{left, clean_append}
-use Rattle.c_parse.proofs.SourcesRead.{items_read, read_spelt, spelt_read, fails_viable, viable_left, viable_front, viable_clean, spelt_viable, fails_ends, ends_fails}
+use Rattle.c_parse.proofs.SourcesRead.{items_read, read_spelt, spelt_read, fails_viable, viable_left, viable_front, viable_clean, fails_ends, ends_fails}
 
 -- ---- a source has at most one list of symbols
 

@@ -1,10 +1,10 @@
 -- Repetitions are read exactly where each step is.
-use Rattle.std.proofs.Common.{◌≡◌, ℕ, zero, suc, ◌+◌, ◌⊎◌, inl, inr, ⊎_elim, ◌≤◌, ◌<◌, Bool, true, false, if◌then◌else◌, ◌&&◌, ◌||◌, not, List, [], ◌∷◌, ◌++◌, length, Option, Some, None, refl, sym, ap, ◌∙◌, subst, append_assoc, arith, length-append}
+use Rattle.std.proofs.Common.{◌≡◌, ℕ, zero, suc, ◌⊎◌, inl, inr, ⊎_elim, ◌≤◌, Bool, true, false, if◌then◌else◌, List, [], ◌∷◌, ◌++◌, length, refl, sym, ap, ◌∙◌, subst, append_assoc, arith, length-append}
 use Rattle.c_parse.specs.Symbols.{Sym}
 use Rattle.c_parse.specs.Phrases.{Phrase, Cut, Steps, StepsFront, done, step, now, later}
 use Rattle.c_parse.specs.Phrases as ph
-use Rattle.c_parse.specs.Reading.{Read, Got, Fails, Reader, and_then, ◌>>=◌, pure, repeat_from, repeat}
-use Rattle.c_parse.proofs.Sets.{code, is_in, apart, within, bool_is, apart_no, within_in, within_no, in_left, in_right}
+use Rattle.c_parse.specs.Reading.{Got, Fails, Reader, and_then, ◌>>=◌, repeat_from, repeat}
+use Rattle.c_parse.proofs.Sets.{code, is_in, apart, within, bool_is, apart_no, in_left, in_right}
 use Rattle.c_parse.specs.Parsed.{NoneRefused}
 use Rattle.c_parse.proofs.Exact.{Exact, Ends, Stops, left, less, then_got, then_fails, then_less, clean_append, clean_empty, Overlap, within_first, over_first, overlap}
 use Rattle.c_parse.proofs.Choices.{stops_more}

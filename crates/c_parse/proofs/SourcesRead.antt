@@ -1,16 +1,15 @@
 -- A source is read exactly: what is read is spelt, what is spelt is read, and reading fails at the symbol that makes the source no longer viable.
-use Rattle.std.proofs.Common.{◌≡◌, ℕ, zero, suc, ◌+◌, ◌≤◌, ◌<◌, arith, Bool, true, false, ◌⊎◌, inl, inr, ⊎_elim, List, [], ◌∷◌, ◌++◌, length, refl, sym, ap, ◌∙◌, subst, append_assoc, length-append}
+use Rattle.std.proofs.Common.{◌≡◌, ℕ, zero, suc, ◌≤◌, arith, true, false, List, [], ◌∷◌, ◌++◌, length, refl, sym, ap, ◌∙◌, subst, append_assoc, length-append}
 use Rattle.std.proofs.lemmas.List.{append-nil}
 use Rattle.c_tree.specs.Syntax as x
 use Rattle.c_parse.specs.Symbols.{Sym}
-use Rattle.c_parse.specs.Phrases as ph
-use Rattle.c_parse.specs.Reading.{Read, Got, Fails, Reader, and_then, pure, repeat_from, repeat}
+use Rattle.c_parse.specs.Reading.{Read, Got, Fails, Reader, repeat_from, repeat}
 use Rattle.c_parse.specs.Sources as so
 use Rattle.c_parse.specs.Sources.{is_over, last_line}
 use Rattle.c_parse.specs.SourceGrammar as sc
 use Rattle.c_parse.specs.Parsed.{Viable, NoneRefused, EndsAt}
-use Rattle.c_parse.proofs.Sets.{code, is_in, bool_is}
-use Rattle.c_parse.proofs.Exact.{Exact, Ends, Stops, left, then_got, then_fails, Overlap, within_first, over_first, overlap}
+use Rattle.c_parse.proofs.Sets.{code, is_in}
+use Rattle.c_parse.proofs.Exact.{Ends, left, then_got, Overlap, within_first, over_first, overlap}
 use Rattle.c_parse.proofs.Repeats as rp
 use Rattle.c_parse.proofs.ItemsRead.{ITEM, more_items_exact}
 

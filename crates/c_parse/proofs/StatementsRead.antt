@@ -1,5 +1,5 @@
 -- Blocks and statements are read exactly.
-use Rattle.std.proofs.Common.{◌≡◌, ℕ, zero, suc, Bool, true, false, if◌then◌else◌, ◌&&◌, ◌||◌, not, ◌⊎◌, inl, inr, ⊎_elim, List, [], ◌∷◌, ◌++◌, length, Option, Some, None, refl, sym, ap, ◌∙◌, subst}
+use Rattle.std.proofs.Common.{◌≡◌, ℕ, zero, suc, Bool, true, false, if◌then◌else◌, inl, List, [], ◌∷◌, ◌++◌, Option, Some, None, refl, sym, ap, ◌∙◌, subst}
 use Rattle.c_tree.specs.declared.syntax.Place.{Place}
 use Rattle.c_tree.specs.declared.syntax.Binary.TheVariants as binary
 use Rattle.c_tree.specs.Syntax as x
@@ -19,14 +19,13 @@ use Rattle.c_parse.specs.Expressions as ex
 use Rattle.c_parse.specs.Declarations as dc
 use Rattle.c_parse.specs.Statements as st
 use Rattle.c_parse.specs.Statements.{items_of, block_of}
-use Rattle.c_parse.specs.Grammar.{one_if, mark_, key_, when}
-use Rattle.c_parse.specs.Grammar as gr
+use Rattle.c_parse.specs.Grammar.{one_if, mark_}
 use Rattle.c_parse.specs.StatementGrammar.{is_open, single_as, single_by, is_barrier}
 use Rattle.c_parse.specs.StatementGrammar as sg
-use Rattle.c_parse.proofs.Sets.{code, mark_code, is_in, apart, within, bool_is, apart_no}
+use Rattle.c_parse.proofs.Sets.{code, mark_code, is_in, apart, within, apart_no}
 use Rattle.c_parse.proofs.Tests.{in_mark, in_key, BASES}
-use Rattle.c_parse.proofs.Exact.{Exact, Stops, bind_exact, give_exact, nothing_exact, one_exact, take_one, taken, then_got}
-use Rattle.c_parse.proofs.Choices.{widen, by_reader, by_phrase, or_exact, or_swap, placed_exact}
+use Rattle.c_parse.proofs.Exact.{Exact, bind_exact, give_exact, nothing_exact, one_exact, take_one, taken, then_got}
+use Rattle.c_parse.proofs.Choices.{widen, by_reader, or_exact, placed_exact}
 use Rattle.c_parse.proofs.Repeats.{until_exact}
 use Rattle.c_parse.proofs.Blocks.{token_then, seq, map_same, map_exact, one_if_exact, mark_exact, key_exact, branch_exact, eaten, when_exact, pick, pick_over, regroup_read, then_same, within_self}
 use Rattle.c_parse.proofs.UnaryRead.{EXPR, after}

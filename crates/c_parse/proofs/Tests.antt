@@ -1,19 +1,17 @@
 -- What the sets of classes have, by the tests that readers make.
-use Rattle.std.proofs.Common.{◌≡◌, ℕ, zero, suc, ◌+◌, ◌<◌, ◌++◌, Bool, true, false, nat_eq, List, [], ◌∷◌, Option, Some, None, refl, sym, ap, ◌∙◌, subst, arith}
+use Rattle.std.proofs.Common.{◌≡◌, ℕ, zero, suc, ◌<◌, ◌++◌, List, [], ◌∷◌, None, refl, arith}
 use Rattle.std.specs.Option.{is_some}
-use denote.Enum.Bare.{sameb, same_true}
 use Rattle.c_parse.specs.declared.symbols.Class.{Class}
 use Rattle.c_parse.specs.declared.symbols.Class.TheVariants as class
 use Rattle.c_parse.specs.declared.symbols.Key.{Key}
 use Rattle.c_parse.specs.declared.symbols.Key.TheVariants as key
 use Rattle.c_parse.specs.declared.symbols.Mark.{Mark}
 use Rattle.c_parse.specs.declared.symbols.Mark.TheVariants as mark
-use Rattle.c_tree.specs.declared.syntax.Binary.{Binary}
 use Rattle.c_tree.specs.declared.syntax.Binary.TheVariants as binary
-use Rattle.c_parse.specs.Signs.{is_mark, is_key, is_name, same_mark, same_key, binary_of, prefix_of, assigns, base_of, is_star, level_of}
+use Rattle.c_parse.specs.Signs.{is_mark, is_key, is_name, same_mark, same_key, binary_of, prefix_of, assigns, base_of, is_star}
 use Rattle.c_parse.specs.Grammar.{number_as, is_text, change_as}
 use Rattle.c_parse.specs.DeclarationGrammar.{is_equals}
-use Rattle.c_parse.proofs.Sets.{code, mark_code, key_code, binary_code, is_in}
+use Rattle.c_parse.proofs.Sets.{code, mark_code, key_code, is_in}
 
 abbrev pub BASES : List ℕ
 BASES = 10 ∷ 11 ∷ 24 ∷ 25 ∷ 26 ∷ []

@@ -1,15 +1,11 @@
 -- Types and lists with commas are read exactly.
-use Rattle.std.proofs.Common.{◌≡◌, ℕ, zero, suc, nat_eq, ◌⊎◌, inl, inr, Bool, true, false, if◌then◌else◌, ◌&&◌, ◌||◌, not, List, [], ◌∷◌, ◌++◌, length, Option, Some, None, refl, sym, ap, ◌∙◌, subst}
-use Rattle.std.proofs.lemmas.List.{append-nil}
+use Rattle.std.proofs.Common.{◌≡◌, ℕ, nat_eq, ◌⊎◌, inl, inr, Bool, true, false, if◌then◌else◌, ◌&&◌, ◌||◌, not, List, [], ◌∷◌, ◌++◌, length, Option, Some, None, refl, sym, ap, ◌∙◌}
 use Rattle.c_tree.specs.declared.syntax.Base.{Base}
 use Rattle.c_tree.specs.declared.syntax.Base.TheVariants as base
-use Rattle.c_tree.specs.declared.syntax.TypeName.{TypeName}
-use Rattle.c_parse.specs.declared.symbols.Class.{Class}
-use Rattle.c_parse.specs.declared.symbols.Class.TheVariants as class
 use Rattle.c_parse.specs.declared.symbols.Key.TheVariants as key
 use Rattle.c_parse.specs.declared.symbols.Mark.TheVariants as mark
 use Rattle.c_parse.specs.Symbols.{Sym}
-use Rattle.c_parse.specs.Signs.{base_of, is_star, is_number, is_mark}
+use Rattle.c_parse.specs.Signs.{base_of, is_star, is_number}
 use Rattle.c_parse.specs.Phrases.{Phrase, give, one, ◌or◌, repeat}
 use Rattle.c_parse.specs.Phrases as ph
 use Rattle.c_parse.specs.Reading.{Read, Got, Fails, Reader, and_then, ◌>>=◌, pure, refuse, class_at, behind, sees, behind_if, eat, eat_key, expect, repeat_from, no_comma}
@@ -17,12 +13,12 @@ use Rattle.c_parse.specs.Reading as rd
 use Rattle.c_parse.specs.Expressions as ex
 use Rattle.c_parse.specs.Grammar.{one_if, one_as, mark_, key_, name_, flag, flag_if, when, long_int}
 use Rattle.c_parse.specs.Grammar as gr
-use Rattle.c_parse.proofs.Sets.{code, mark_code, is_in, apart, within, bool_is, in_either, left_no}
+use Rattle.c_parse.proofs.Sets.{code, is_in, apart, within, in_either, left_no}
 use Rattle.c_parse.proofs.Tests.{in_mark, in_bases, BASES, in_stars, STARS}
-use Rattle.c_parse.proofs.Exact.{Exact, Stops, left, give_exact, take_one, taken}
-use Rattle.c_parse.proofs.Choices.{widen, by_reader, by_phrase}
+use Rattle.c_parse.proofs.Exact.{Exact, Stops, give_exact, take_one, taken}
+use Rattle.c_parse.proofs.Choices.{widen, by_reader}
 use Rattle.c_parse.proofs.Repeats.{repeat_exact}
-use Rattle.c_parse.proofs.Blocks.{token_then, seq, seq_maybe, map_same, one_as_exact, flag_exact, flag_key_exact, mark_exact, within_self, within_when, repeat_is, passing, or_true, then_same}
+use Rattle.c_parse.proofs.Blocks.{token_then, seq_maybe, map_same, one_as_exact, flag_exact, flag_key_exact, mark_exact, within_self, within_when, repeat_is, or_true}
 
 -- ---- bases
 

@@ -1,5 +1,5 @@
 -- Unary, postfix and primary expressions are read exactly, where what is one deeper is.
-use Rattle.std.proofs.Common.{◌≡◌, ℕ, zero, suc, Bool, true, false, if◌then◌else◌, ◌&&◌, ◌||◌, not, ◌⊎◌, inl, inr, ⊎_elim, List, [], ◌∷◌, ◌++◌, length, Option, Some, None, refl, sym, ap, ◌∙◌, subst}
+use Rattle.std.proofs.Common.{◌≡◌, ℕ, Bool, true, false, if◌then◌else◌, not, List, [], ◌∷◌, ◌++◌, length, Some, None, refl, sym, ◌∙◌}
 use Rattle.c_tree.specs.declared.syntax.Place.{Place}
 use Rattle.c_tree.specs.declared.syntax.Binary.TheVariants as binary
 use Rattle.c_tree.specs.Syntax as x
@@ -10,7 +10,7 @@ use Rattle.c_parse.specs.declared.symbols.Mark.TheVariants as mark
 use Rattle.c_parse.specs.declared.grammar.Part.{Part}
 use Rattle.c_parse.specs.declared.grammar.Part.TheVariants as part
 use Rattle.c_parse.specs.Symbols.{Sym}
-use Rattle.c_parse.specs.Signs.{base_of, begins_base, is_mark, is_key, is_name, prefix_of, prefixed, same_mark, same_key}
+use Rattle.c_parse.specs.Signs.{begins_base, is_mark, prefix_of, prefixed, same_mark, same_key}
 use Rattle.c_parse.specs.Phrases.{Phrase, nothing, give, one, ◌or◌, placed}
 use Rattle.c_parse.specs.Phrases as ph
 use Rattle.c_parse.specs.Reading.{Read, Got, Fails, Reader, and_then, ◌>>=◌, pure, refuse, class_at, bytes_at, behind, sees, behind_if, eat, expect, expect_key, name, here}
@@ -19,12 +19,12 @@ use Rattle.c_parse.specs.Expressions as ex
 use Rattle.c_parse.specs.Expressions.{arguments_of}
 use Rattle.c_parse.specs.Grammar.{one_if, one_as, mark_, key_, name_, when, number_as, is_text, change_as}
 use Rattle.c_parse.specs.Grammar as gr
-use Rattle.c_parse.proofs.Sets.{code, is_in, apart, within, bool_is}
-use Rattle.c_parse.proofs.Tests.{in_mark, in_bases, BASES, in_prefixes, PREFIXES, in_names, NAMES, in_numbers, NUMBERS, in_texts, TEXTS, in_changes, CHANGES, tighter_codes}
-use Rattle.c_parse.proofs.Exact.{Exact, Stops, left, give_exact, nothing_exact, take_one, taken}
-use Rattle.c_parse.proofs.Choices.{Same, widen, by_reader, by_phrase, or_swap, or_exact, placed_exact, same_refl, same_sym, same_trans, same_bind, same_or, same_placed, or_then, factor, regroup, give_then, nothing_then, nothing_twice, arrange}
+use Rattle.c_parse.proofs.Sets.{code, is_in}
+use Rattle.c_parse.proofs.Tests.{in_mark, in_bases, BASES, in_prefixes, PREFIXES, NAMES, in_numbers, NUMBERS, in_texts, TEXTS, in_changes, CHANGES, tighter_codes}
+use Rattle.c_parse.proofs.Exact.{Exact, Stops, give_exact, nothing_exact, take_one}
+use Rattle.c_parse.proofs.Choices.{Same, widen, by_reader, by_phrase, or_swap, or_exact, placed_exact, same_refl, same_sym, same_trans, same_bind, same_or, or_then, factor, regroup, give_then, nothing_then, nothing_twice, arrange}
 use Rattle.c_parse.proofs.Repeats.{repeat_exact}
-use Rattle.c_parse.proofs.Blocks.{token_then, seq, seq_maybe, map_same, one_as_exact, one_if_exact, mark_exact, key_exact, name_exact, branch, branch_exact, eaten, when_exact, repeat_is, pick, pick_exact, within_self, if_yes_at, if_no_at}
+use Rattle.c_parse.proofs.Blocks.{token_then, seq, seq_maybe, map_same, one_as_exact, one_if_exact, mark_exact, key_exact, name_exact, branch_exact, eaten, when_exact, repeat_is, pick, pick_exact, if_yes_at, if_no_at}
 use Rattle.c_parse.proofs.TypesRead.{type_base_exact, type_name_exact, separated_exact}
 
 -- with what an expression begins

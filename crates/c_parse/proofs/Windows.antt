@@ -5,8 +5,7 @@ use Rattle.std.proofs.lemmas.List.{append-nil}
 use Rattle.c_parse.specs.Symbols.{Sym}
 use Rattle.c_parse.specs.Phrases.{Phrase, at_most}
 use Rattle.c_parse.specs.Reading.{Read, Got, Fails, Reader, within, end_of, put_back, ending_at}
-use Rattle.c_parse.proofs.Sets.{code, is_in, bool_is}
-use Rattle.c_parse.proofs.Exact.{Exact, Ends, Stops, left, less}
+use Rattle.c_parse.proofs.Exact.{Exact, Ends, Stops, left}
 
 take_over : (w rest : List Sym) (m n : ℕ) → length w + m ≡ n → take n (w ++ rest) ≡ w ++ take m rest
 take_over [] rest m n e = ap (λ k. take k rest) (omega arith)

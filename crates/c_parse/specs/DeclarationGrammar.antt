@@ -1,5 +1,5 @@
 -- The productions of declarations and parameters, one definition each (C99, section 6.7).
-use Rattle.std.specs.Prelude.{ℕ, Bool, true, false, List, [], ◌∷◌, ◌++◌, Option, Some, None}
+use Rattle.std.specs.Prelude.{ℕ, Bool, true, false, List, [], Option, Some, None}
 use Rattle.c_tree.specs.declared.syntax.Place.{Place}
 use Rattle.c_tree.specs.declared.syntax.Base.{Base}
 use Rattle.c_tree.specs.declared.syntax.Param.{Param}
@@ -12,8 +12,8 @@ use Rattle.c_parse.specs.declared.symbols.Key.TheVariants as key
 use Rattle.c_parse.specs.declared.symbols.Mark.TheVariants as mark
 use Rattle.c_parse.specs.declared.grammar.Part.TheVariants as part
 use Rattle.c_parse.specs.Signs.{is_star}
-use Rattle.c_parse.specs.Phrases.{Phrase, nothing, give, one, ◌>>=◌, ◌>>◌, ◌or◌, repeat, placed}
-use Rattle.c_parse.specs.Grammar.{one_if, mark_, key_, name_, flag, when, one_more, separated, type_base, star, expression}
+use Rattle.c_parse.specs.Phrases.{Phrase, give, ◌>>=◌, ◌>>◌, ◌or◌, placed}
+use Rattle.c_parse.specs.Grammar.{one_if, mark_, key_, name_, flag, separated, type_base, star, expression}
 
 -- ---- declarators
 
@@ -22,6 +22,7 @@ abbrev pub is_equals : Class → Bool
 is_equals (class.Assign None) = true
 is_equals c = false
 
+-- the symbol =
 abbrev pub equals_ : Phrase (Unit {0})
 equals_ = one_if is_equals (λ _. tt)
 
@@ -63,11 +64,13 @@ declaration_at d at = do
   mark_ mark.Semicolon
   give (record { at = at; is_static = is_static; base = base; declarators = found })
 
+-- a declaration, told where it begins
 unfoldable pub declaration : ℕ → Phrase x.Declaration
 declaration d = placed (declaration_at d)
 
 -- ---- parameters
 
+-- the symbol *
 abbrev pub star_ : Phrase (Unit {0})
 star_ = one_if is_star (λ _. tt)
 
@@ -76,6 +79,7 @@ unfoldable pub is_array : Bool → Phrase Bool
 is_array true = give false
 is_array false = (do mark_ mark.OpenSquare; mark_ mark.CloseSquare; give true) or give false
 
+-- the type of a parameter, by its base, whether it has a * and whether it has brackets
 abbrev pub param_type : Base → Bool → Bool → ParamType
 param_type base pointer true = Array base
 param_type base pointer false = Plain (record { base = base; pointer = pointer })
@@ -97,6 +101,7 @@ arguments_param at = do
   (do star_; called ← name_; give (record { at = at; param_type = Arguments; name = called }))
       or (do called ← name_; mark_ mark.OpenSquare; mark_ mark.CloseSquare; give (record { at = at; param_type = Arguments; name = called }))
 
+-- param, told where it begins
 unfoldable pub param : Phrase Param
 param = placed (λ at. arguments_param at or typed_param at)
 

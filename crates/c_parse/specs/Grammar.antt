@@ -1,14 +1,9 @@
--- The productions of the language, one definition each (C99, sections 6.5 to 6.9).
+-- The productions of types and expressions, one definition each, and the words that all productions are written with (C99, section 6.5).
 use Rattle.std.specs.Prelude.{ℕ, ℤ, zero, suc, Bool, true, false, List, [], ◌∷◌, ◌++◌, Option, Some, None, if◌then◌else◌}
 use Rattle.c_tree.specs.declared.syntax.Place.{Place}
 use Rattle.c_tree.specs.declared.syntax.Base.{Base}
 use Rattle.c_tree.specs.declared.syntax.Base.TheVariants as base
 use Rattle.c_tree.specs.declared.syntax.TypeName.{TypeName}
-use Rattle.c_tree.specs.declared.syntax.Param.{Param}
-use Rattle.c_tree.specs.declared.syntax.ParamType.{ParamType}
-use Rattle.c_tree.specs.declared.syntax.ParamType.TheVariants as param
-use Rattle.c_tree.specs.declared.syntax.Returns.{Returns}
-use Rattle.c_tree.specs.declared.syntax.Returns.TheVariants as returns
 use Rattle.c_tree.specs.declared.syntax.Change.{Change}
 use Rattle.c_tree.specs.Syntax as x
 use Rattle.c_parse.specs.declared.symbols.Class.{Class}
@@ -34,12 +29,15 @@ one_if test value = one (λ s. if test s.class then Some (value s) else None)
 abbrev pub one_as : {A : Type 0} → (Class → Option A) → Phrase A
 one_as meaning = one (λ s. meaning s.class)
 
+-- a sign that is no operator
 abbrev pub mark_ : Mark → Phrase (Unit {0})
 mark_ m = one_if (is_mark m) (λ _. tt)
 
+-- a key
 abbrev pub key_ : Key → Phrase (Unit {0})
 key_ k = one_if (is_key k) (λ _. tt)
 
+-- a name, by its bytes
 abbrev pub name_ : Phrase (List ℕ)
 name_ = one_if is_name (λ s. s.bytes)
 
@@ -52,15 +50,17 @@ abbrev pub when : {A : Type 0} → Bool → Phrase A → Phrase A
 when true p = p
 when false p = nothing
 
--- one or more, with commas between
+-- a comma and one more, put behind those before
 abbrev pub one_more : {A : Type 0} → Phrase A → List A → Phrase (List A)
 one_more p found = mark_ mark.Comma >> (p >>= (λ a. give (found ++ a ∷ [])))
 
+-- one or more, with commas between
 abbrev pub separated : {A : Type 0} → Phrase A → Phrase (List A)
 separated p = p >>= (λ first. repeat (one_more p) (first ∷ []))
 
 -- ---- types
 
+-- behind a long there may be an int
 abbrev pub long_int : Base → Phrase Base
 long_int base.Long = flag (key_ key.Int) >> give base.Long
 long_int b = give b
@@ -87,14 +87,17 @@ type_name = do
 
 -- ---- expressions
 
+-- a number's value, and whether it is a long
 abbrev pub number_as : Class → Option (ℤ × Bool)
 number_as (class.Number value long) = Some (value, long)
 number_as c = None
 
+-- a text
 abbrev pub is_text : Class → Bool
 is_text class.Text = true
 is_text c = false
 
+-- ++ or --
 abbrev pub change_as : Class → Option Change
 change_as (class.Change change) = Some change
 change_as c = None
@@ -228,6 +231,7 @@ unfoldable pub nest : ℕ → Nest
 nest zero = record { deep = false; below = λ _. nothing }
 nest (suc d) = record { deep = true; below = production (nest d) }
 
+-- an expression, a conditional or a unary one, of which so many marked productions may stand in one another
 unfoldable pub expr : ℕ → Part → Phrase x.Expr
 expr d = production (nest d)
 

@@ -7,7 +7,6 @@ use Rattle.c_parse.specs.declared.symbols.Class.TheVariants as class
 use Rattle.c_parse.specs.declared.refusals.ParseRefusal.{ParseRefusal}
 use Rattle.c_parse.specs.declared.refusals.ParseRefusal.TheVariants.{Syntax, Pragma}
 use Rattle.c_parse.specs.Symbols.{Sym, Symbols}
-use Rattle.c_parse.specs.Phrases.{Phrase}
 use Rattle.c_parse.specs.Sources.{last_line}
 use Rattle.c_parse.specs.SourceGrammar.{unit}
 

@@ -1,8 +1,9 @@
 -- The forms that productions are made of. A phrase says which lists of symbols spell which value, and which lists are its fronts.
-use Rattle.std.specs.Prelude.{◌≡◌, ℕ, ◌≤◌, ◌⊎◌, Bool, true, false, List, [], ◌∷◌, ◌++◌, length, Option, Some, None}
+use Rattle.std.specs.Prelude.{◌≡◌, ℕ, ◌≤◌, ◌⊎◌, List, [], ◌∷◌, ◌++◌, length, Option, Some}
 use Rattle.c_tree.specs.declared.syntax.Place.{Place}
 use Rattle.c_parse.specs.Symbols.{Sym}
 
+-- which lists spell which value, and which lists are fronts
 pub record Phrase (A : Type 0) : Type 1 where
   pub spells : List Sym → A → Type 0
   pub front : List Sym → Type 0
@@ -15,10 +16,11 @@ nothing = record { spells = λ ts a. ⊥; front = λ ts. ts ≡ [] }
 abbrev pub give : {A : Type 0} → A → Phrase A
 give a = record { spells = λ ts b. (ts ≡ []) × (b ≡ a); front = λ ts. ts ≡ [] }
 
--- one symbol, for what it is read as
+-- the list is one symbol, and is read as the value
 abbrev pub IsOne : {A : Type 0} → (Sym → Option A) → List Sym → A → Type 0
 IsOne read ts a = (s : Sym) × (ts ≡ s ∷ []) × (read s ≡ Some a)
 
+-- one symbol, for what it is read as; its fronts are that symbol and the empty list
 abbrev pub one : {A : Type 0} → (Sym → Option A) → Phrase A
 one {A} read = record { spells = IsOne read; front = λ ts. (ts ≡ []) ⊎ ((a : A) × IsOne read ts a) }
 
@@ -39,6 +41,7 @@ p >>= k = record {
   front = λ ts. p.front ts ⊎ Cut p.spells (λ a. (k a).front) ts;
 }
 
+-- the same where the value of the first does not matter
 infixl 10 ◌>>◌
 abbrev pub ◌>>◌ : {A B : Type 0} → Phrase A → Phrase B → Phrase B
 p >> q = p >>= (λ _. q)
@@ -58,6 +61,7 @@ pub data StepsFront {S : Type 0} (spells : S → List Sym → S → Type 0) (fro
   now : {s : S} {ts : List Sym} → front s ts → StepsFront spells front s ts
   later : {s : S} {ts : List Sym} (u : S) (before behind : List Sym) → ts ≡ before ++ behind → spells s before u → StepsFront spells front u behind → StepsFront spells front s ts
 
+-- a repetition, from a value on
 abbrev pub repeat : {S : Type 0} → (S → Phrase S) → S → Phrase S
 repeat k s = record {
   spells = λ ts t. Steps (λ u. (k u).spells) s ts t;

@@ -1,8 +1,7 @@
 -- The productions of a source, one definition each (C99, section 6.9).
-use Rattle.std.specs.Prelude.{◌≡◌, ℕ, Bool, true, false, List, [], ◌∷◌, ◌++◌, Option, Some, None}
+use Rattle.std.specs.Prelude.{ℕ, Bool, List, [], ◌∷◌, ◌++◌, Option, Some, None}
 use Rattle.mpc_base.specs.declared.owners.Level.{Level}
 use Rattle.c_tree.specs.declared.syntax.Place.{Place}
-use Rattle.c_tree.specs.declared.syntax.Base.{Base}
 use Rattle.c_tree.specs.declared.syntax.Returns.{Returns}
 use Rattle.c_tree.specs.declared.syntax.Returns.TheVariants.{Void, Value}
 use Rattle.c_tree.specs.Syntax as x
@@ -12,7 +11,7 @@ use Rattle.c_parse.specs.declared.symbols.Key.TheVariants as key
 use Rattle.c_parse.specs.declared.symbols.Mark.TheVariants as mark
 use Rattle.c_parse.specs.Symbols.{Sym}
 use Rattle.c_parse.specs.Phrases.{Phrase, give, one, ◌>>=◌, ◌>>◌, ◌or◌, repeat, placed}
-use Rattle.c_parse.specs.Grammar.{one_if, mark_, key_, name_, flag, type_name, type_base, star}
+use Rattle.c_parse.specs.Grammar.{mark_, key_, name_, flag, type_name}
 use Rattle.c_parse.specs.DeclarationGrammar.{declaration_at, params}
 use Rattle.c_parse.specs.StatementGrammar.{body, inside}
 use Rattle.c_parse.specs.Sources.{most_deep}
@@ -39,10 +38,12 @@ function at = do
   called ← name_
   function_of at is_static returns called
 
+-- the level and the names of a scope directive
 abbrev pub scope_by : Class → List (List ℕ) → Option (Level × List (List ℕ))
 scope_by (class.Scope level) names = Some (level, names)
 scope_by c names = None
 
+-- the same of a symbol
 abbrev pub scope_as : Sym → Option (Level × List (List ℕ))
 scope_as s = scope_by s.class s.names
 
@@ -53,6 +54,7 @@ item = placed (λ at.
     or (do found ← declaration_at most_deep at; give (x.Variables found))
     or function at)
 
+-- one item more, put behind those before
 unfoldable pub one_more_item : List x.Item → Phrase (List x.Item)
 one_more_item found = do
   i ← item

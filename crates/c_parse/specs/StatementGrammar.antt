@@ -40,9 +40,11 @@ abbrev pub single_by : Class → List (List ℕ) → Option (List (List ℕ) × 
 single_by (class.Single nowait) names = Some (names, nowait)
 single_by c names = None
 
+-- the same of a symbol
 abbrev pub single_as : Sym → Option (List (List ℕ) × Bool)
 single_as s = single_by s.class s.names
 
+-- a barrier
 abbrev pub is_barrier : Class → Bool
 is_barrier class.Barrier = true
 is_barrier c = false
@@ -57,6 +59,7 @@ module _ (inside : Inside) where
   unfoldable pub item : Phrase x.Stmt
   item = (do found ← declaration inside.depth; give (x.Declare found)) or inside.stmt
 
+  -- one item more, put behind those before
   unfoldable pub one_more_item : List x.Stmt → Phrase (List x.Stmt)
   one_more_item found = do
     s ← item
@@ -148,5 +151,6 @@ unfoldable pub inside : ℕ → Inside
 inside zero = record { deep = false; depth = 0; stmt = nothing }
 inside (suc d) = record { deep = true; depth = d; stmt = placed (statement_at (inside d) d) }
 
+-- a statement in which so many marked productions may stand in one another
 unfoldable pub statement : ℕ → Phrase x.Stmt
 statement d = placed (statement_at (inside d) d)

@@ -32,6 +32,7 @@ sym_of src s = record { at = s.at; class = s.class; bytes = take s.len (drop s.s
 abbrev pub Spelling : Type 0
 Spelling = List ℕ × Class
 
+-- the keys that productions use
 abbrev pub keys : List Spelling
 keys =
     (codes "int", class.Key key.Int) ∷
