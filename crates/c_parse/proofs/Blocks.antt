@@ -15,7 +15,7 @@ use Rattle.c_parse.specs.Phrases as ph
 use Rattle.c_parse.specs.Reading.{Read, Got, Fails, Reader, and_then, ◌>>=◌, pure, refuse, class_at, behind, sees, sees_key, behind_if, eat, eat_key, expect, expect_key, name, repeat_from}
 use Rattle.c_parse.specs.Grammar.{one_if, one_as, mark_, key_, name_, flag, when}
 use Rattle.c_parse.proofs.Sets.{code, mark_code, key_code, is_in, apart, within, bool_is, apart_no, in_left, in_right}
-use Rattle.c_parse.proofs.Tests.{in_mark, in_key, in_names, NAMES}
+use Rattle.c_parse.proofs.ClassTests.{in_mark, in_key, in_names, NAMES}
 use Rattle.c_parse.proofs.Exact.{Exact, bind_exact, give_exact, nothing_exact, one_exact, take_one, taken}
 use Rattle.c_parse.proofs.Choices.{widen, by_reader, or_exact}
 

@@ -20,7 +20,7 @@ use Rattle.c_parse.specs.Expressions as ex
 use Rattle.c_parse.specs.Declarations as dc
 use Rattle.c_parse.specs.Grammar.{mark_, name_}
 use Rattle.c_parse.specs.DeclarationGrammar as dg
-use Rattle.c_parse.proofs.Tests.{in_mark, in_key, in_equals, EQUALS, in_stars, STARS, BASES}
+use Rattle.c_parse.proofs.ClassTests.{in_mark, in_key, in_equals, EQUALS, in_stars, STARS, BASES}
 use Rattle.c_parse.proofs.Exact.{Exact, give_exact, take_one}
 use Rattle.c_parse.proofs.Choices.{widen, by_reader, by_phrase, placed_exact, same_sym, or_group}
 use Rattle.c_parse.proofs.Blocks.{token_then, seq, maybe_seq, maybe_both, map_same, one_if_exact, mark_exact, name_exact, flag_key_exact, branch_exact, eaten, regroup_read, then_same, took}

@@ -20,7 +20,7 @@ use Rattle.c_parse.specs.Expressions as ex
 use Rattle.c_parse.specs.Grammar.{one_if, one_as, mark_}
 use Rattle.c_parse.specs.Grammar as gr
 use Rattle.c_parse.proofs.Sets.{code, is_in, apart, within, within_no}
-use Rattle.c_parse.proofs.Tests.{in_mark, in_level, in_assigns, ASSIGNS, level_codes, tighter_codes}
+use Rattle.c_parse.proofs.ClassTests.{in_mark, in_level, in_assigns, ASSIGNS, level_codes, tighter_codes}
 use Rattle.c_parse.proofs.Exact.{Exact, Stops, left, give_exact, nothing_exact, take_one, taken}
 use Rattle.c_parse.proofs.Choices.{Same, widen, by_reader, by_phrase, or_exact, placed_exact, same_refl, same_sym, same_trans, same_bind, same_or, factor, regroup, then_give}
 use Rattle.c_parse.proofs.Repeats.{repeat_exact}

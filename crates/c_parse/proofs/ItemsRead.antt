@@ -28,7 +28,7 @@ use Rattle.c_parse.specs.DeclarationGrammar as dg
 use Rattle.c_parse.specs.SourceGrammar.{scope_as, scope_by}
 use Rattle.c_parse.specs.SourceGrammar as sc
 use Rattle.c_parse.proofs.Sets.{code, is_in}
-use Rattle.c_parse.proofs.Tests.{in_mark, in_key, BASES, NAMES}
+use Rattle.c_parse.proofs.ClassTests.{in_mark, in_key, BASES, NAMES}
 use Rattle.c_parse.proofs.Exact.{Exact, give_exact, one_exact, take_one}
 use Rattle.c_parse.proofs.Choices.{Same, by_reader, by_phrase, or_exact, placed_exact, same_refl, same_sym, same_trans, same_bind, same_or, same_placed, or_then, or_group, factor, regroup, give_then, placed_then, turn_round}
 use Rattle.c_parse.proofs.Blocks.{token_then, seq, maybe_seq, map_same, mark_exact, name_exact, flag_key_exact, branch_exact, eaten, regroup_read, then_same, if_yes_at, if_no_at}

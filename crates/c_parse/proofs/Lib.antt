@@ -1,6 +1,7 @@
 pub mod Blocks
 pub mod Calls
 pub mod Choices
+pub mod ClassTests
 pub mod DeclarationsRead
 pub mod Depths
 pub mod Exact
@@ -17,7 +18,6 @@ pub mod Shown
 pub mod Skips
 pub mod SourcesRead
 pub mod StatementsRead
-pub mod Tests
 pub mod Turns
 pub mod TypesRead
 pub mod UnaryRead

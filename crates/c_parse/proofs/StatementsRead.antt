@@ -23,7 +23,7 @@ use Rattle.c_parse.specs.Grammar.{one_if, mark_}
 use Rattle.c_parse.specs.StatementGrammar.{is_open, single_as, single_by, is_barrier}
 use Rattle.c_parse.specs.StatementGrammar as sg
 use Rattle.c_parse.proofs.Sets.{code, mark_code, is_in, apart, within, apart_no}
-use Rattle.c_parse.proofs.Tests.{in_mark, in_key, BASES}
+use Rattle.c_parse.proofs.ClassTests.{in_mark, in_key, BASES}
 use Rattle.c_parse.proofs.Exact.{Exact, bind_exact, give_exact, nothing_exact, one_exact, take_one, taken, then_got}
 use Rattle.c_parse.proofs.Choices.{widen, by_reader, or_exact, placed_exact}
 use Rattle.c_parse.proofs.Repeats.{until_exact}

@@ -14,7 +14,7 @@ use Rattle.c_parse.specs.Expressions as ex
 use Rattle.c_parse.specs.Grammar.{one_if, one_as, mark_, key_, name_, flag, flag_if, when, long_int}
 use Rattle.c_parse.specs.Grammar as gr
 use Rattle.c_parse.proofs.Sets.{code, is_in, apart, within, in_either, left_no}
-use Rattle.c_parse.proofs.Tests.{in_mark, in_bases, BASES, in_stars, STARS}
+use Rattle.c_parse.proofs.ClassTests.{in_mark, in_bases, BASES, in_stars, STARS}
 use Rattle.c_parse.proofs.Exact.{Exact, Stops, give_exact, take_one, taken}
 use Rattle.c_parse.proofs.Choices.{widen, by_reader}
 use Rattle.c_parse.proofs.Repeats.{repeat_exact}

@@ -20,7 +20,7 @@ use Rattle.c_parse.specs.Expressions.{arguments_of}
 use Rattle.c_parse.specs.Grammar.{one_if, one_as, mark_, key_, name_, when, number_as, is_text, change_as}
 use Rattle.c_parse.specs.Grammar as gr
 use Rattle.c_parse.proofs.Sets.{code, is_in}
-use Rattle.c_parse.proofs.Tests.{in_mark, in_bases, BASES, in_prefixes, PREFIXES, NAMES, in_numbers, NUMBERS, in_texts, TEXTS, in_changes, CHANGES, tighter_codes}
+use Rattle.c_parse.proofs.ClassTests.{in_mark, in_bases, BASES, in_prefixes, PREFIXES, NAMES, in_numbers, NUMBERS, in_texts, TEXTS, in_changes, CHANGES, tighter_codes}
 use Rattle.c_parse.proofs.Exact.{Exact, Stops, give_exact, nothing_exact, take_one}
 use Rattle.c_parse.proofs.Choices.{Same, widen, by_reader, by_phrase, or_swap, or_exact, placed_exact, same_refl, same_sym, same_trans, same_bind, same_or, or_then, factor, regroup, give_then, nothing_then, nothing_twice, arrange}
 use Rattle.c_parse.proofs.Repeats.{repeat_exact}

@@ -13,12 +13,7 @@ use std::alloc::Global;
 const MOST: usize = 1024;
 
 /// A part of a marked production, in which so many marked productions may stand in one another.
-pub fn expr(
-    alloc: Global,
-    cursor: &mut Cursor<'_>,
-    depth: usize,
-    part: Part,
-) -> Result<Expr, Stop>
+pub fn expr(alloc: Global, cursor: &mut Cursor<'_>, depth: usize, part: Part) -> Result<Expr, Stop>
     ensures { Reads expr_of (spec.expr depth part cursor.old) result cursor.new }
 {
     Grammar { alloc, depth, expr }.part(cursor, part)

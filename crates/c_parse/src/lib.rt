@@ -26,3 +26,6 @@ mod unaries;
 
 pub use parser::parse;
 pub use refusals::ParseRefusal;
+
+#[cfg(test)]
+mod tests;

@@ -21,11 +21,7 @@ pub fn call(at: Place, name: Identifier, arguments: Vec<Expr>) -> Expr
 pub fn index(alloc: Global, at: Place, array: Expr, index: Expr) -> Result<Expr, Memory>
     ensures { IfOk result (λ e. expr_of e ≡ x.Index at (expr_of array) (expr_of index)) }
 {
-    Ok(Expr::Index(
-        at,
-        Box::new(alloc, array)?,
-        Box::new(alloc, index)?,
-    ))
+    Ok(Expr::Index(at, Box::new(alloc, array)?, Box::new(alloc, index)?))
 }
 
 pub fn field(alloc: Global, at: Place, operand: Expr, name: Identifier) -> Result<Expr, Memory>
@@ -65,12 +61,7 @@ pub fn binary(
 ) -> Result<Expr, Memory>
     ensures { IfOk result (λ e. expr_of e ≡ x.Binary' at sign (expr_of left) (expr_of right)) }
 {
-    Ok(Expr::Binary(
-        at,
-        sign,
-        Box::new(alloc, left)?,
-        Box::new(alloc, right)?,
-    ))
+    Ok(Expr::Binary(at, sign, Box::new(alloc, left)?, Box::new(alloc, right)?))
 }
 
 pub fn choice(alloc: Global, at: Place, test: Expr, yes: Expr, no: Expr) -> Result<Expr, Memory>
@@ -93,12 +84,7 @@ pub fn assign(
 ) -> Result<Expr, Memory>
     ensures { IfOk result (λ e. expr_of e ≡ x.Assign at sign (expr_of left) (expr_of right)) }
 {
-    Ok(Expr::Assign(
-        at,
-        sign,
-        Box::new(alloc, left)?,
-        Box::new(alloc, right)?,
-    ))
+    Ok(Expr::Assign(at, sign, Box::new(alloc, left)?, Box::new(alloc, right)?))
 }
 
 pub fn body(at: Place, items: Vec<Stmt>, end_line: u32) -> Body
@@ -132,12 +118,7 @@ pub fn if_else(
 ) -> Result<Stmt, Memory>
     ensures { IfOk result (λ s. stmt_of s ≡ x.IfElse at (expr_of test) (stmt_of body) (stmt_of other)) }
 {
-    Ok(Stmt::IfElse(
-        at,
-        test,
-        Box::new(alloc, body)?,
-        Box::new(alloc, other)?,
-    ))
+    Ok(Stmt::IfElse(at, test, Box::new(alloc, body)?, Box::new(alloc, other)?))
 }
 
 pub fn while_loop(alloc: Global, at: Place, test: Expr, body: Stmt) -> Result<Stmt, Memory>

@@ -152,12 +152,7 @@ impl<F: Fn(Global, &mut Cursor<'_>, usize, Part) -> Result<Expr, Stop>> Grammar<
 
     /// The indices, fields and changes behind an operand.
     #[tactic(auto, unfolding(crate::specs::Expressions::postfixes, crate::specs::Reading::repeat_from))]
-    pub fn postfixes(
-        &self,
-        cursor: &mut Cursor<'_>,
-        at: Place,
-        operand: Expr,
-    ) -> Result<Expr, Stop>
+    pub fn postfixes(&self, cursor: &mut Cursor<'_>, at: Place, operand: Expr) -> Result<Expr, Stop>
         requires { Nests self.now.depth (F.pre self.now.expr) (F.post self.now.expr) }
         ensures { Reads expr_of (spec.postfixes (spec.nest self.now.depth) at (expr_of operand) cursor.old) result cursor.new }
     {

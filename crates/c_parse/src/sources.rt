@@ -89,12 +89,7 @@ fn variables(
 
 // A declaration, or a function that answers a value.
 #[tactic(auto, unfolding(crate::specs::Sources::typed))]
-fn typed(
-    alloc: Global,
-    cursor: &mut Cursor<'_>,
-    at: Place,
-    is_static: bool,
-) -> Result<Item, Stop>
+fn typed(alloc: Global, cursor: &mut Cursor<'_>, at: Place, is_static: bool) -> Result<Item, Stop>
     ensures { Reads item_of (spec.typed at is_static cursor.old) result cursor.new }
 {
     let base = type_base(cursor)?;

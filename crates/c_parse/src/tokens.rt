@@ -171,11 +171,7 @@ fn alone(alloc: Global, token: &Token, class: Class) -> Symbol
 fn word_symbol(alloc: Global, src: &[u8], token: &Token) -> Symbol
     ensures { result ≡ made token.now (spec.class_of (spec.bytes_of src.now token.now)) [] }
 {
-    alone(
-        alloc,
-        token,
-        class_of(part(src, token.start, token.len)),
-    )
+    alone(alloc, token, class_of(part(src, token.start, token.len)))
 }
 
 // The symbol of a token; a foreign pragma has none.

@@ -22,5 +22,5 @@ pub returns-in-Number : goal.returns-in-Number
 returns-in-Number c =
     let e : to_z w64 (of_z w64 c.in-Number.value) ≡ c.in-Number.value = to_z-of_z w64 c.in-Number.value (search rules) in
     let h : Shows c.args.src.now c.args.token (class.Number (to_z w64 (of_z w64 c.in-Number.value)) c.in-Number.long) [] =
-      subst (λ v. Shows c.args.src.now c.args.token (class.Number v c.in-Number.long) []) (sym e) (as_number c.in-Number.value c.in-Number.long c.in-Number.is) in
+    subst (λ v. Shows c.args.src.now c.args.token (class.Number v c.in-Number.long) []) (sym e) (as_number c.in-Number.value c.in-Number.long c.in-Number.is) in
     sees_some c.args.src.now c.args.token _ _ _ c.alone-in-Number.ensures h
