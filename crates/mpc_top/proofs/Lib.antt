@@ -11,7 +11,6 @@ pub mod Walks
 pub mod PlainBodies
 pub mod Begins
 pub mod SentLemmas
-pub mod Commands
 pub mod Lines
-pub mod Sources
-pub mod Completeness
+pub mod Reasons
+pub mod Answering

@@ -1,15 +1,20 @@
 -- What the top call answers, and what each answer says.
-use Rattle.std.specs.Prelude.{◌≡◌, ℕ, List, [], ◌∷◌, codes, Option, Some, None, IfSome, Bool, true, false, ◌==◌, if◌then◌else◌}
+use Rattle.std.specs.Prelude.{◌≡◌, ℕ, List, [], ◌∷◌, codes, Option, Some, None, IfSome, Bool, ◌==◌}
 use Rattle.std.specs.List.{list_any}
 use Rattle.mpc_base.specs.Causes.{Rose}
 use Rattle.mpc_base.specs.Told.{Store, content_of, Took, TookPrefix}
 use Rattle.c_tree.specs.declared.trees.Program.{Program}
+use Rattle.c_tree.specs.Programs as typed
 use Rattle.journal.specs.Report.{report_of}
 use Rattle.mpc_base.specs.declared.journals.End.TheVariants as end
 use Rattle.run_model.specs.declared.records.RunRecord.{RunRecord}
 use Rattle.run_model.specs.Run.{RecordsRun, status_of}
-use Rattle.mpc_top.specs.FirstSource.{FirstSource, NotFirst}
+use Rattle.mpc_top.specs.declared.command.Mode.{Mode}
+use Rattle.mpc_top.specs.declared.command.Mode.TheVariants.{Check, Serial}
+use Rattle.mpc_top.specs.declared.sources.SourceRefusal.{SourceRefusal}
+use Rattle.mpc_top.specs.FirstSource.{FirstSource}
 use Rattle.mpc_top.specs.Command.{NamesSource}
+use Rattle.mpc_top.specs.Sources.{Accepted, Refuses, refusal_line, accepted_line}
 
 abbrev pub usage_line : List ℕ
 usage_line = codes "mpc: usage\n"
@@ -17,80 +22,74 @@ usage_line = codes "mpc: usage\n"
 abbrev pub read_fault_line : List ℕ
 read_fault_line = codes "mpc: cannot read source\n"
 
-abbrev pub missing_line : List ℕ
-missing_line = codes "mpc: source: missing\n"
-
-abbrev pub not_built_line : List ℕ
-not_built_line = codes "mpc: source: not built\n"
-
--- The words name a source, and its file, where the store tells it, is like this.
-pub record OfSource (words : List (List ℕ)) (told : Option Store) (Like : Option (List ℕ) → Type 0) : Type 0 where
+-- The words name a source in a mode, and its file, where the store tells it, is like this.
+pub record OfSource (words : List (List ℕ)) (mode : Mode) (told : Option Store) (Like : Option (List ℕ) → Type 0) : Type 0 where
   pub name : List ℕ
-  pub names : NamesSource words name
+  pub names : NamesSource words mode name
   pub file : IfSome told (λ store. Like (content_of store name))
 
--- there is no such file
-abbrev pub IsMissing : Option (List ℕ) → Type 0
-IsMissing file = file ≡ None
+-- The words name a source in a mode, the store tells its files, and the source's file is like this.
+pub record ToldSource (words : List (List ℕ)) (mode : Mode) (told : Option Store) (Like : Option (List ℕ) → Type 0) : Type 0 where
+  pub name : List ℕ
+  pub names : NamesSource words mode name
+  pub store : Store
+  pub tells : told ≡ Some store
+  pub like : Like (content_of store name)
 
--- the file's content is a first source, and this is its program
+-- the file's content is accepted, and this is its typed program
+abbrev pub IsAccepted : typed.Program → Option (List ℕ) → Type 0
+IsAccepted program None = ⊥
+IsAccepted program (Some src) = Accepted src program
+
+-- the file's content is an accepted source that is run, and this is its program
 abbrev pub IsFirst : Program → Option (List ℕ) → Type 0
 IsFirst program None = ⊥
-IsFirst program (Some src) = FirstSource src program
+IsFirst program (Some src) = FirstSource src program × ((accepted : typed.Program) × Accepted src accepted)
 
--- the file's content is no first source
-abbrev pub IsNotFirst : Option (List ℕ) → Type 0
-IsNotFirst None = ⊥
-IsNotFirst (Some src) = NotFirst src
+-- what a mode asks for of a source, so that it is done: to be accepted, and to be run also to be one that is built
+abbrev pub IsGood : Mode → Option (List ℕ) → Type 0
+IsGood Check file = (program : typed.Program) × IsAccepted program file
+IsGood Serial file = (program : Program) × IsFirst program file
 
 -- The sink took the line, or a prefix of it where its count of faults rose.
 pub record WroteLine (line : List ℕ) (taken taken' : Option (List ℕ)) (faults faults' : ℕ) : Type 0 where
   pub prefix : TookPrefix taken line taken'
   pub whole : (Rose faults faults' → ⊥) → Took taken line taken'
 
--- The record is that of a finished run of this program, whose exit status is 0.
+-- The record is that of a finished run, whose exit status is 0.
 pub record IsFinishedRun (run : RunRecord) : Type 0 where
   pub records : RecordsRun run
   pub finished : run.end ≡ end.Finished
   pub status : status_of run.end run.ranks ≡ 0
 
--- the program is that of some first source, as is the file's content
-abbrev pub IsSomeFirst : Option (List ℕ) → Type 0
-IsSomeFirst None = ⊥
-IsSomeFirst (Some src) = (program : Program) × FirstSource src program
+-- What a mode writes of a source. For `check` it is the line that tells what was accepted, and no record is kept. For
+-- `serial` it is the report of a finished run of the source's program, and that run's record is kept.
+abbrev pub Text : Mode → List (List ℕ) → Option Store → Option RunRecord → List ℕ → Type 0
+Text Check words told None text = (program : typed.Program) × OfSource words Check told (IsAccepted program) × (text ≡ accepted_line program)
+Text Check words told (Some run) text = ⊥
+Text Serial words told None text = ⊥
+Text Serial words told (Some run) text = IsFinishedRun run × OfSource words Serial told (IsFirst run.setup.program) × (text ≡ report_of run.ranks run.end)
 
--- The words name a source, the store tells its files, and the source's file is like this.
-pub record ToldSource (words : List (List ℕ)) (told : Option Store) (Like : Option (List ℕ) → Type 0) : Type 0 where
-  pub name : List ℕ
-  pub names : NamesSource words name
-  pub store : Store
-  pub tells : told ≡ Some store
-  pub like : Like (content_of store name)
+-- The sink took the mode's whole text.
+pub record IsDone (words : List (List ℕ)) (told : Option Store) (kept : Option RunRecord) (taken taken' : Option (List ℕ)) : Type 0 where
+  pub mode : Mode
+  pub text : List ℕ
+  pub is : Text mode words told kept text
+  pub took : Took taken text taken'
 
--- The record of a run is kept: it is that of a finished run of the source's program, and the sink took its whole report.
-abbrev pub IsDone : List (List ℕ) → Option Store → Option RunRecord → Option (List ℕ) → Option (List ℕ) → Type 0
-IsDone words told None taken taken' = ⊥
-IsDone words told (Some run) taken taken' =
-    IsFinishedRun run × OfSource words told (IsFirst run.setup.program) × Took taken (report_of run.ranks run.end) taken'
+-- The same, but the sink took a prefix of the text.
+pub record IsCutShort (words : List (List ℕ)) (told : Option Store) (kept : Option RunRecord) (taken taken' : Option (List ℕ)) : Type 0 where
+  pub mode : Mode
+  pub text : List ℕ
+  pub is : Text mode words told kept text
+  pub took : TookPrefix taken text taken'
 
--- The same, but the sink took a prefix of the report.
-abbrev pub IsCutShort : List (List ℕ) → Option Store → Option RunRecord → Option (List ℕ) → Option (List ℕ) → Type 0
-IsCutShort words told None taken taken' = ⊥
-IsCutShort words told (Some run) taken taken' =
-    IsFinishedRun run × OfSource words told (IsFirst run.setup.program) × TookPrefix taken (report_of run.ranks run.end) taken'
-
-abbrev pub refused_line : Bool → List ℕ
-refused_line missing = if missing then missing_line else not_built_line
-
-abbrev pub Refuses : Bool → Option (List ℕ) → Type 0
-Refuses true file = IsMissing file
-Refuses false file = IsNotFirst file
-
--- The source's file is missing, or is no first source, and the sink took that line.
+-- The source is refused, and the sink took the line that says why.
 pub record IsRefused (words : List (List ℕ)) (told : Option Store) (taken taken' : Option (List ℕ)) (faults faults' : ℕ) : Type 0 where
-  pub missing : Bool
-  pub source : OfSource words told (Refuses missing)
-  pub line : WroteLine (refused_line missing) taken taken' faults faults'
+  pub mode : Mode
+  pub refusal : SourceRefusal
+  pub source : OfSource words mode told (Refuses mode refusal)
+  pub line : WroteLine (refusal_line refusal) taken taken' faults faults'
 
 -- the statuses that are answered
 abbrev pub is_status : ℕ → Bool

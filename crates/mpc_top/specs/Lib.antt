@@ -8,6 +8,7 @@ pub mod OneTask
 pub mod Walking
 pub mod Plain
 pub mod Command
+pub mod Sources
 pub mod Answers
 pub mod Sent
 pub mod Refusals

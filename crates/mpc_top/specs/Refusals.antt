@@ -1,27 +1,30 @@
--- Why no program was run, and what a call of the top has done: it refused, or it ran a program.
-use Rattle.std.specs.Prelude.{◌≡◌, ◌≢◌, ℕ, List, [], Option, Some, None, IfSome, ◌⊎◌}
+-- Why nothing was done, and what a call of the top has done: it refused, it showed a text, or it found no memory.
+use Rattle.std.specs.Prelude.{◌≡◌, ◌≢◌, ℕ, List, [], Option, Some, None, ◌⊎◌}
 use Rattle.mpc_base.specs.Causes.{Rose}
-use Rattle.mpc_base.specs.Told.{Store, content_of, Took, TookPrefix}
-use Rattle.c_tree.specs.declared.trees.Program.{Program}
-use Rattle.journal.specs.Report.{report_of}
+use Rattle.mpc_base.specs.Told.{Store, Took, TookPrefix}
 use Rattle.run_model.specs.declared.records.RunRecord.{RunRecord}
+use Rattle.c_tree.specs.Programs as typed
+use Rattle.journal.specs.Report.{report_of}
+use Rattle.mpc_top.specs.declared.command.Mode.{Mode}
+use Rattle.mpc_top.specs.declared.command.Mode.TheVariants.{Check, Serial}
+use Rattle.mpc_top.specs.declared.sources.SourceRefusal.{SourceRefusal}
+use Rattle.mpc_top.specs.FirstSource.{FirstSource}
 use Rattle.mpc_top.specs.declared.refusals.Refusal.{Refusal}
-use Rattle.mpc_top.specs.declared.refusals.Refusal.TheVariants.{Usage, ReadFault, Missing, NotBuilt, Memory}
-use Rattle.mpc_top.specs.Command.{NamesNone}
-use Rattle.mpc_top.specs.Answers.{OfSource, IsMissing, IsFirst, IsNotFirst, WroteLine, IsFinishedRun, usage_line, read_fault_line, missing_line, not_built_line}
+use Rattle.mpc_top.specs.declared.refusals.Refusal.TheVariants.{Usage, ReadFault, Source, Memory}
+use Rattle.mpc_top.specs.Command.{NamesSource, NamesNone}
+use Rattle.mpc_top.specs.Sources.{Accepted, Refuses, RefusesContent, refusal_line, accepted_line}
+use Rattle.mpc_top.specs.Answers.{OfSource, WroteLine, IsFinishedRun, Text, usage_line, read_fault_line}
 
 abbrev pub status_for : Refusal → ℕ
 status_for Usage = 6
 status_for ReadFault = 7
-status_for Missing = 5
-status_for NotBuilt = 5
+status_for (Source refusal) = 5
 status_for Memory = 10
 
 abbrev pub line_for : Refusal → List ℕ
 line_for Usage = usage_line
 line_for ReadFault = read_fault_line
-line_for Missing = missing_line
-line_for NotBuilt = not_built_line
+line_for (Source refusal) = refusal_line refusal
 line_for Memory = []
 
 abbrev pub IsAny : Option (List ℕ) → Type 0
@@ -30,10 +33,9 @@ IsAny file = Unit {0}
 -- the cause of a refusal: the words, what the store tells, and its count of faults before and after
 abbrev pub Holds : Refusal → List (List ℕ) → Option Store → ℕ → ℕ → Type 0
 Holds Usage words told faults faults' = NamesNone words
-Holds ReadFault words told faults faults' = OfSource words told IsAny × Rose faults faults'
-Holds Missing words told faults faults' = OfSource words told IsMissing × (Rose faults faults' → ⊥)
-Holds NotBuilt words told faults faults' = OfSource words told IsNotFirst × (Rose faults faults' → ⊥)
-Holds Memory words told faults faults' = OfSource words told IsAny
+Holds ReadFault words told faults faults' = (mode : Mode) × OfSource words mode told IsAny × Rose faults faults'
+Holds (Source refusal) words told faults faults' = (mode : Mode) × OfSource words mode told (Refuses mode refusal) × (Rose faults faults' → ⊥)
+Holds Memory words told faults faults' = (mode : Mode) × OfSource words mode told IsAny
 
 -- The text was written whole, with status 0, or a prefix of it because the sink failed, with status 8.
 pub record Showed (status : ℕ) (text : List ℕ) (taken taken' : Option (List ℕ)) (faults faults' : ℕ) : Type 0 where
@@ -41,29 +43,23 @@ pub record Showed (status : ℕ) (text : List ℕ) (taken taken' : Option (List 
   pub whole : status ≡ 0 → Took taken text taken'
   pub cause : status ≢ 0 → (status ≡ 8) × Rose faults faults'
 
--- The program's run was made and its report was shown, or memory was wanted and nothing was written.
-abbrev pub Ran : Program → ℕ → Option RunRecord → Option (List ℕ) → Option (List ℕ) → ℕ → ℕ → Type 0
-Ran program status None taken taken' faults faults' = (status ≡ 10) × (taken' ≡ taken)
-Ran program status (Some run) taken taken' faults faults' =
-    IsFinishedRun run × (run.setup.program ≡ program) × Showed status (report_of run.ranks run.end) taken taken' faults faults'
+-- What a mode makes of an accepted source: a text, and the record of the run for `serial`.
+abbrev pub MadeOf : Mode → List ℕ → List ℕ → Option RunRecord → Type 0
+MadeOf Check src text None = (program : typed.Program) × Accepted src program × (text ≡ accepted_line program)
+MadeOf Check src text (Some run) = ⊥
+MadeOf Serial src text None = ⊥
+MadeOf Serial src text (Some run) = IsFinishedRun run × (FirstSource src run.setup.program × ((accepted : typed.Program) × Accepted src accepted)) × (text ≡ report_of run.ranks run.end)
 
-abbrev pub RefusesFile : Refusal → Option (List ℕ) → Type 0
-RefusesFile Usage file = ⊥
-RefusesFile ReadFault file = Unit {0}
-RefusesFile Missing file = IsMissing file
-RefusesFile NotBuilt file = IsNotFirst file
-RefusesFile Memory file = Unit {0}
+-- the report of a finished run of the program of a first source, and the run's record
+abbrev pub RunOf : List ℕ → List ℕ → Option RunRecord → Type 0
+RunOf src text None = ⊥
+RunOf src text (Some run) = IsFinishedRun run × FirstSource src run.setup.program × (text ≡ report_of run.ranks run.end)
 
-abbrev pub IsCalm : Refusal → ℕ → ℕ → Type 0
-IsCalm Usage faults faults' = ⊥
-IsCalm ReadFault faults faults' = Rose faults faults'
-IsCalm Missing faults faults' = Rose faults faults' → ⊥
-IsCalm NotBuilt faults faults' = Rose faults faults' → ⊥
-IsCalm Memory faults faults' = Unit {0}
-
--- a read gave no source to look at: its count rose, or the file, where it is told, is as the refusal says
-abbrev pub RefusesRead : Refusal → Option Store → List ℕ → ℕ → ℕ → Type 0
-RefusesRead refusal told name faults faults' = IfSome told (λ store. RefusesFile refusal (content_of store name)) × IsCalm refusal faults faults'
+-- Memory was wanted and not found, and nothing was written.
+pub record WasShort (status : ℕ) (kept : Option RunRecord) (taken taken' : Option (List ℕ)) : Type 0 where
+  pub status_is : status ≡ 10
+  pub kept_none : kept ≡ None
+  pub nothing : taken' ≡ taken
 
 -- A refusal, with its cause, its status and its line.
 pub record WasRefused (words : List (List ℕ)) (told : Option Store) (faults faults' status : ℕ) (kept : Option RunRecord) (taken taken' : Option (List ℕ)) (write_faults write_faults' : ℕ) : Type 0 where
@@ -73,13 +69,28 @@ pub record WasRefused (words : List (List ℕ)) (told : Option Store) (faults fa
   pub kept_none : kept ≡ None
   pub line : WroteLine (line_for refusal) taken taken' write_faults write_faults'
 
--- A run of the source's program.
-pub record WasRun (words : List (List ℕ)) (told : Option Store) (status : ℕ) (kept : Option RunRecord) (taken taken' : Option (List ℕ)) (write_faults write_faults' : ℕ) : Type 0 where
-  pub program : Program
-  pub first : OfSource words told (IsFirst program)
-  pub ran : Ran program status kept taken taken' write_faults write_faults'
+-- The text of the mode was shown.
+pub record WasShown (words : List (List ℕ)) (told : Option Store) (status : ℕ) (kept : Option RunRecord) (taken taken' : Option (List ℕ)) (write_faults write_faults' : ℕ) : Type 0 where
+  pub mode : Mode
+  pub text : List ℕ
+  pub is : Text mode words told kept text
+  pub showed : Showed status text taken taken' write_faults write_faults'
+
+-- A refusal was told: its status and its line.
+pub record Closes (refusal : Refusal) (status : ℕ) (kept : Option RunRecord) (taken taken' : Option (List ℕ)) (write_faults write_faults' : ℕ) : Type 0 where
+  pub status_is : status ≡ status_for refusal
+  pub kept_none : kept ≡ None
+  pub line : WroteLine (line_for refusal) taken taken' write_faults write_faults'
+
+-- what was done with a source that was read
+abbrev pub SourceAnswered : Mode → List ℕ → ℕ → Option RunRecord → Option (List ℕ) → Option (List ℕ) → ℕ → ℕ → Type 0
+SourceAnswered mode src status kept taken taken' write_faults write_faults' =
+    ((refusal : SourceRefusal) × RefusesContent mode refusal src × Closes (Source refusal) status kept taken taken' write_faults write_faults')
+    ⊎ (((text : List ℕ) × MadeOf mode src text kept × Showed status text taken taken' write_faults write_faults') ⊎ WasShort status kept taken taken')
 
 -- what a call has done
 abbrev pub Answered : List (List ℕ) → Option Store → ℕ → ℕ → ℕ → Option RunRecord → Option (List ℕ) → Option (List ℕ) → ℕ → ℕ → Type 0
 Answered words told faults faults' status kept taken taken' write_faults write_faults' =
-    WasRefused words told faults faults' status kept taken taken' write_faults write_faults' ⊎ WasRun words told status kept taken taken' write_faults write_faults'
+    WasRefused words told faults faults' status kept taken taken' write_faults write_faults'
+    ⊎ (WasShown words told status kept taken taken' write_faults write_faults'
+    ⊎ ((mode : Mode) × (name : List ℕ) × NamesSource words mode name × WasShort status kept taken taken'))

@@ -14,6 +14,7 @@ mod one_task;
 mod outputs;
 mod pieces;
 mod refusals;
+mod sources;
 mod top;
 mod walking;
 

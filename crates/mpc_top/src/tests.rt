@@ -198,35 +198,145 @@ fn a_sink_that_fails_at_any_byte_has_the_bytes_before_it(rt: HostRuntime) -> Res
     Ok(())
 }
 
+// What a source is answered in a mode: the status, and what the sink takes.
+fn answered(alloc: Global, mode: &str, source: &str) -> Result<(u8, Vec<u8>), Memory> {
+    let done = serial(alloc, &[mode, "first.c"], Some(source), &[], 100, &[])?;
+    Ok((done.top.status, Vec::from_slice(alloc, done.sink.bytes())?))
+}
+
 #[test]
-fn other_sources_are_not_built(rt: HostRuntime) -> Result<(), Fail> {
+fn accepted_sources_that_are_no_first_source_are_not_built(rt: HostRuntime) -> Result<(), Fail> {
     let sources = [
-        "",
         "int main(void) { return 0; } int x;",
         "int x; int main(void){ x = 2 / 1; printf(\"%d\\n\", x); return 0; }",
         "int x; int main(void){ x = 2147483648; return 0; }",
         "int x; int main(void){ x = 2L; return 0; }",
         "int x; int main(void){ x = 0x2; return 0; }",
-        "int x; int x; int main(void){ return 0; }",
-        "int x; int main(void){ y = 2; return 0; }",
-        "int x; int main(void){ printf(\"%d\", y); return 0; }",
-        "int x; int main(void){ printf(\"%d %d\", x); return 0; }",
-        "int x; int main(void){ printf(\"none\", x); return 0; }",
         "int x; int main(void){ printf(\"%d%%\", x); return 0; }",
         "int x; int main(void){ x = 2; }",
         "int x; int main(void){ return 1; }",
-        "int main; int main(void){ return 0; }",
-        "int printf; int main(void){ return 0; }",
-        "int MPI_Init; int main(void){ return 0; }",
         "int x; int main(){ return 0; }",
-        "int x; int main(void){ return 0; } @",
-        "int x; int main(void){ return 0; } ;",
     ];
     for source in &sources {
-        let done = serial(rt.alloc(), COMMAND, Some(source), &[], 100, &[])?;
-        assert_eq!(rt; done.top.status, 5, "{source}");
-        assert_eq!(rt; done.sink.bytes(), "mpc: source: not built\n".as_bytes());
+        let (status, taken) = answered(rt.alloc(), "serial", source)?;
+        assert_eq!(rt;
+            taken.as_slice(),
+            "mpc: source: not built\n".as_bytes(),
+            "{source}"
+        );
+        assert_eq!(rt; status, 5);
+        let (status, taken) = answered(rt.alloc(), "check", source)?;
+        assert_eq!(rt; status, 0, "{source}");
+        assert!(rt; taken.as_slice().starts_with(b"accepted: 1 functions, "));
     }
+    Ok(())
+}
+
+#[test]
+fn refused_sources_say_why_and_where(rt: HostRuntime) -> Result<(), Fail> {
+    let rows = [
+        ("", "mpc: source: line 1: rule 1\n"),
+        (
+            "int main(void){ return 0;",
+            "mpc: source: line 1, column 26: syntax\n",
+        ),
+        (
+            "int main(void){ return 0@; }",
+            "mpc: source: line 1, column 25: lex\n",
+        ),
+        (
+            "int x; int main(void){ return 0; } @",
+            "mpc: source: line 1, column 36: lex\n",
+        ),
+        (
+            "int x; int main(void){ return 0; } ;",
+            "mpc: source: line 1, column 36: syntax\n",
+        ),
+        (
+            "int a;\n#pragma hls socket(a)\nint main(void) { return 0; }\n",
+            "mpc: source: line 2: pragma\n",
+        ),
+        (
+            "int a;\n#pragma hls numa(a)\n#pragma hls node(a)\nint main(void) { return 0; }\n",
+            "mpc: source: line 3: rule 30\n",
+        ),
+        (
+            "int x; int x; int main(void){ return 0; }",
+            "mpc: source: line 1: rule 2\n",
+        ),
+        (
+            "int x; int main(void){ printf(\"%d\", y); return 0; }",
+            "mpc: source: line 1: rule 3\n",
+        ),
+        (
+            "int x;\nint main(void){\n  printf(\"%d %d\", x);\n  return 0; }",
+            "mpc: source: line 3: rule 24\n",
+        ),
+        (
+            "int printf; int main(void){ return 0; }",
+            "mpc: source: line 1: rule 4\n",
+        ),
+        (
+            "int MPI_Init; int main(void){ return 0; }",
+            "mpc: source: line 1: rule 4\n",
+        ),
+    ];
+    for (source, line) in &rows {
+        for mode in ["check", "serial"] {
+            let (status, taken) = answered(rt.alloc(), mode, source)?;
+            assert_eq!(rt; taken.as_slice(), line.as_bytes(), "{source}");
+            assert_eq!(rt; status, 5);
+        }
+    }
+    Ok(())
+}
+
+const SWEEPS: &str =
+    "#include <mpi.h>\n#include <stdio.h>\n#define N 4\nint w[3];\n#pragma hls node(w)\nint x[N + 2];\nint y[N + 2];\nvoid step(void) {\n  int i;\n  for (i = 1; i <= N; i++) y[i] = w[0] * x[i - 1] + w[1] * x[i] + w[2] * x[i + 1];\n  for (i = 1; i <= N; i++) x[i] = y[i];\n}\nint main(int argc, char *argv[]) {\n  int r, n, i, k, mine, all;\n  MPI_Request q[4];\n  MPI_Init(&argc, &argv);\n  MPI_Comm_rank(MPI_COMM_WORLD, &r);\n  MPI_Comm_size(MPI_COMM_WORLD, &n);\n#pragma hls single(w)\n  { w[0] = 1; w[1] = 2; w[2] = 1; }\n  for (i = 1; i <= N; i++) x[i] = r;\n  for (k = 1; k <= 2; k++) {\n    MPI_Irecv(&x[0], 1, MPI_INT, (r + n - 1) % n, 1, MPI_COMM_WORLD, &q[0]);\n    MPI_Irecv(&x[N + 1], 1, MPI_INT, (r + 1) % n, 2, MPI_COMM_WORLD, &q[1]);\n    MPI_Isend(&x[1], 1, MPI_INT, (r + n - 1) % n, 2, MPI_COMM_WORLD, &q[2]);\n    MPI_Isend(&x[N], 1, MPI_INT, (r + 1) % n, 1, MPI_COMM_WORLD, &q[3]);\n    MPI_Waitall(4, q, MPI_STATUSES_IGNORE);\n    step();\n    mine = 0;\n    for (i = 1; i <= N; i++) mine += x[i];\n    MPI_Allreduce(&mine, &all, 1, MPI_INT, MPI_SUM, MPI_COMM_WORLD);\n    printf(\"sweep %d: sum %d, first %d\\n\", k, all, x[1]);\n  }\n  MPI_Finalize();\n  return 0;\n}\n";
+
+#[test]
+fn accepted_sources_are_counted(rt: HostRuntime) -> Result<(), Fail> {
+    let rows = [
+        (FIRST, "accepted: 1 functions, 1 globals, 0 shared\n"),
+        (SWEEPS, "accepted: 2 functions, 3 globals, 1 shared\n"),
+        (
+            "int a;\n#pragma hls numa(a)\nint main(void) { return 0; }\n",
+            "accepted: 1 functions, 1 globals, 1 shared\n",
+        ),
+        (
+            "int a;\n#pragma omp parallel\nint main(void) { return 0; }\n",
+            "accepted: 1 functions, 1 globals, 0 shared\n",
+        ),
+        (
+            "int f(int n); int f(int n) { static int s[2] = {1, 2}; return s[n]; } int main(void) { return f(1); }",
+            "accepted: 2 functions, 1 globals, 0 shared\n",
+        ),
+    ];
+    for (source, line) in &rows {
+        let (status, taken) = answered(rt.alloc(), "check", source)?;
+        assert_eq!(rt; taken.as_slice(), line.as_bytes(), "{source}");
+        assert_eq!(rt; status, 0);
+    }
+    Ok(())
+}
+
+#[test]
+fn a_source_of_too_many_bytes_is_too_long(rt: HostRuntime) -> Result<(), Fail> {
+    let alloc = rt.alloc();
+    let mut source = String::from_str(alloc, "int main(void) { return 0; }")?;
+    while source.len() < 1_048_576 {
+        source.push('\n')?;
+    }
+    let (status, taken) = answered(alloc, "check", source.as_str())?;
+    assert_eq!(rt;
+        taken.as_slice(),
+        b"accepted: 1 functions, 0 globals, 0 shared\n".as_slice()
+    );
+    assert_eq!(rt; status, 0);
+    source.push('\n')?;
+    let (status, taken) = answered(alloc, "check", source.as_str())?;
+    assert_eq!(rt; taken.as_slice(), b"mpc: source: too long\n".as_slice());
+    assert_eq!(rt; status, 5);
     Ok(())
 }
 

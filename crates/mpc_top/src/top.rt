@@ -1,22 +1,24 @@
-//! The top call: from the command's words to the report and the status.
-ghost use Rattle.std.specs.Prelude.{◌≡◌, ◌≢◌, ◌≤◌, ◌↔◌, ℕ, List, Option, map, string_bytes, None, Some, OnOk, IfOk, OnErr, IfErr, IfSome, true};
+//! The top call: from the command's words to the text that is written and the status.
+ghost use Rattle.std.specs.Prelude.{◌≡◌, ◌≢◌, ◌≤◌, ◌↔◌, ℕ, List, Option, length, map, string_bytes, None, Some, OnOk, IfOk, OnErr, IfErr, IfSome, MatchOption, ◌⊎◌, true};
 ghost use Rattle.mpc_base.specs.Causes.{Rose, HasCause};
 ghost use Rattle.mpc_base.specs.Told.{Took, TookPrefix, content_of};
-ghost use Rattle.c_tree.specs.declared.trees.Program.{Program};
-ghost use Rattle.journal.specs.Report.{report_of};
+ghost use Rattle.c_tree.specs.ProgramOf.{program_of};
 ghost use Rattle.mpc_top.specs.Command.{NamesSource, NamesNone};
-ghost use Rattle.mpc_top.specs.Answers.{OfSource, IsMissing, IsFirst, IsNotFirst, WroteLine, IsFinishedRun, IsDone, IsCutShort, IsRefused, ToldSource, IsSomeFirst, is_status, usage_line, read_fault_line};
-ghost use Rattle.mpc_top.specs.Plain.{IsPlainProgram};
-ghost use Rattle.mpc_top.specs.Refusals.{Holds, line_for, status_for, Showed, Ran, RefusesRead, Answered};
+ghost use Rattle.mpc_top.specs.Sources.{Refuses, RefusesContent, refusal_line, accepted_line};
+ghost use Rattle.mpc_top.specs.FirstSource.{NotFirst};
+ghost use Rattle.mpc_top.specs.Answers.{ToldSource, WroteLine, IsDone, IsCutShort, IsRefused, IsGood, is_status, usage_line, read_fault_line};
+ghost use Rattle.mpc_top.specs.Refusals.{Holds, MadeOf, RunOf, line_for, Closes, Showed, WasShort, SourceAnswered, Answered};
+ghost use Rattle.mpc_top.specs.declared.command.Mode.{Mode};
+ghost use Rattle.mpc_top.specs.declared.sources.SourceRefusal.{SourceRefusal};
 
-use crate::command::source_name;
+use crate::command::{Mode, source_named};
 use crate::first_run::run_first;
-use crate::first_source::{FIRST_SOURCE_LIMIT, first_program};
+use crate::first_source::first_program;
 use crate::outputs::write_all;
 use crate::refusals::Refusal;
-use c_tree::Program;
+use crate::sources::{SOURCE_LIMIT, SourceRefusal, accept, accepted_text};
 use journal::report;
-use mpc_base::{Files, ReadAnswer, Sink};
+use mpc_base::{Files, Memory, ReadAnswer, Sink};
 use run_model::{RunRecord, Setup};
 use std::alloc::Global;
 
@@ -27,56 +29,117 @@ pub struct Top {
     pub kept: Option<RunRecord>,
 }
 
+// What a mode writes, and the record of the run where one was made.
+#[derive(Drop)]
+struct Made {
+    text: Vec<u8>,
+    kept: Option<RunRecord>,
+}
+
 // The source's bytes.
-fn read_source<F: Files>(alloc: Global, name: &str, files: &mut F) -> Result<Vec<u8>, Refusal>
+fn read_source<F: Files>(
+    alloc: Global,
+    words: &[String],
+    mode: Mode,
+    name: &str,
+    files: &mut F,
+) -> Result<Vec<u8>, Refusal>
+    requires named { NamesSource (map string_bytes words.now) mode name.now }
     ensures told { F.told files.new ≡ F.told files.old }
     ensures calm { IfOk result (λ src. Rose (F.faults files.old) (F.faults files.new) → ⊥) }
+    ensures short { IfOk result (λ src. length src.items ≤ 1048576) }
     ensures content { IfOk result (λ src. IfSome (F.told files.old) (λ store. content_of store name.now ≡ Some src.items)) }
-    ensures refused { IfErr result (λ refusal. RefusesRead refusal (F.told files.old) name.now (F.faults files.old) (F.faults files.new)) }
+    ensures refused { IfErr result (λ refusal. Holds refusal (map string_bytes words.now) (F.told files.old) (F.faults files.old) (F.faults files.new)) }
 {
-    match files.read(alloc, name, FIRST_SOURCE_LIMIT) {
+    match files.read(alloc, name, SOURCE_LIMIT) {
         ReadAnswer::Bytes(src) => Ok(src),
-        ReadAnswer::Missing => Err(Refusal::Missing),
-        ReadAnswer::TooLong => Err(Refusal::NotBuilt),
+        ReadAnswer::Missing => Err(Refusal::Source(SourceRefusal::Missing)),
+        ReadAnswer::TooLong => Err(Refusal::Source(SourceRefusal::TooLong)),
         ReadAnswer::Failed => Err(Refusal::ReadFault),
         ReadAnswer::Memory => Err(Refusal::Memory),
     }
 }
 
-// The program of the source that the words name.
-fn program_named<F: Files>(
-    alloc: Global,
-    words: &[String],
-    files: &mut F,
-) -> Result<Program, Refusal>
-    ensures told { F.told files.new ≡ F.told files.old }
-    ensures first { IfOk result (λ program. OfSource (map string_bytes words.now) (F.told files.old) (IsFirst program)) }
-    ensures plain { IfOk result (λ program. IsPlainProgram program) }
-    ensures refused { IfErr result (λ refusal. Holds refusal (map string_bytes words.now) (F.told files.old) (F.faults files.old) (F.faults files.new)) }
+// The line of an accepted source.
+fn check_text(alloc: Global, program: &c_tree::program::Program) -> Result<Made, Memory>
+    ensures text { IfOk result (λ made. made.text.items ≡ accepted_line (program_of program.now)) }
+    ensures kept { IfOk result (λ made. made.kept ≡ None) }
 {
-    let Some(name) = source_name(words) else {
-        return Err(Refusal::Usage);
+    let line = accepted_text(alloc, program)?;
+    Ok(Made {
+        text: line.into_bytes(),
+        kept: None,
+    })
+}
+
+// The report and the record of a first source's run, where the source is one.
+fn serial_text(alloc: Global, src: &[u8]) -> Result<Option<Made>, Memory>
+    ensures { IfOk result (λ r. MatchOption r (NotFirst src.now) (λ made. RunOf src.now made.text.items made.kept)) }
+{
+    let Some(program) = first_program(alloc, src)? else {
+        return Ok(None);
     };
-    let src = match read_source(alloc, name, files) {
-        Ok(src) => src,
-        Err(refusal) => return Err(refusal),
+    let run = run_first(alloc, Setup { program })?;
+    let text = report(alloc, &run)?;
+    Ok(Some(Made {
+        text,
+        kept: Some(run),
+    }))
+}
+
+// What a mode makes of a source, or why the source is refused.
+fn make(alloc: Global, mode: Mode, src: &[u8]) -> Result<Result<Made, SourceRefusal>, Memory>
+    requires small { length src.now ≤ 1048576 }
+    ensures made { IfOk result (λ r. IfOk r (λ made. MadeOf mode src.now made.text.items made.kept)) }
+    ensures refused { IfOk result (λ r. IfErr r (λ refusal. RefusesContent mode refusal src.now)) }
+{
+    let program = match accept(alloc, src)? {
+        Ok(program) => program,
+        Err(refusal) => return Ok(Err(refusal)),
     };
-    match first_program(alloc, src.as_slice()) {
-        Err(_) => Err(Refusal::Memory),
-        Ok(None) => Err(Refusal::NotBuilt),
-        Ok(Some(program)) => Ok(program),
+    match mode {
+        Mode::Check => Ok(Ok(check_text(alloc, &program)?)),
+        Mode::Serial => match serial_text(alloc, src)? {
+            Some(made) => Ok(Ok(made)),
+            None => Ok(Err(SourceRefusal::NotBuilt)),
+        },
     }
 }
 
-fn refuse<K: Sink>(out: &mut K, refusal: Refusal) -> Top
-    ensures status { result.status ≡ status_for refusal }
+fn short() -> Top
+    ensures status { result.status ≡ 10 }
     ensures kept { result.kept ≡ None }
-    ensures line { WroteLine (line_for refusal) (K.taken out.old) (K.taken out.new) (K.faults out.old) (K.faults out.new) }
 {
-    let _written = write_all(out, refusal.line());
+    Top {
+        status: 10,
+        kept: None,
+    }
+}
+
+// Writes a line in place of a report.
+fn close<K: Sink>(out: &mut K, refusal: Refusal, line: &[u8]) -> Top
+    requires { line.now ≡ line_for refusal }
+    ensures { Closes refusal result.status result.kept (K.taken out.old) (K.taken out.new) (K.faults out.old) (K.faults out.new) }
+{
+    let _written = write_all(out, line);
     Top {
         status: refusal.status(),
         kept: None,
+    }
+}
+
+fn refuse<K: Sink>(alloc: Global, out: &mut K, refusal: Refusal) -> Top
+    ensures { Closes refusal result.status result.kept (K.taken out.old) (K.taken out.new) (K.faults out.old) (K.faults out.new)
+        ⊎ WasShort result.status result.kept (K.taken out.old) (K.taken out.new) }
+{
+    match refusal {
+        Refusal::Memory => short(),
+        Refusal::Usage => close(out, refusal, b"mpc: usage\n"),
+        Refusal::ReadFault => close(out, refusal, b"mpc: cannot read source\n"),
+        Refusal::Source(reason) => match reason.line(alloc) {
+            Ok(line) => close(out, refusal, line.as_bytes()),
+            Err(_) => short(),
+        },
     }
 }
 
@@ -90,46 +153,46 @@ fn show<K: Sink>(out: &mut K, text: &[u8]) -> u8
     }
 }
 
-fn run_program<K: Sink>(alloc: Global, program: Program, out: &mut K) -> Top
-    requires plain { IsPlainProgram program }
-    ensures { Ran program result.status result.kept (K.taken out.old) (K.taken out.new) (K.faults out.old) (K.faults out.new) }
+// What is done with a source that was read.
+fn answer_source<K: Sink>(alloc: Global, mode: Mode, src: &[u8], out: &mut K) -> Top
+    requires small { length src.now ≤ 1048576 }
+    ensures { SourceAnswered mode src.now result.status result.kept (K.taken out.old) (K.taken out.new) (K.faults out.old) (K.faults out.new) }
 {
-    let Ok(run) = run_first(alloc, Setup { program }) else {
-        return Top {
-            status: 10,
-            kept: None,
-        };
-    };
-    let Ok(text) = report(alloc, &run) else {
-        return Top {
-            status: 10,
-            kept: None,
-        };
-    };
-    let status = show(out, text.as_slice());
-    Top {
-        status,
-        kept: Some(run),
+    match make(alloc, mode, src) {
+        Err(_) => short(),
+        Ok(Err(refusal)) => refuse(alloc, out, Refusal::Source(refusal)),
+        Ok(Ok(made)) => {
+            let status = show(out, made.text.as_slice());
+            Top {
+                status,
+                kept: made.kept,
+            }
+        }
     }
 }
 
-// The whole call, as a refusal or a run.
+// The whole call, as a refusal, a text that was shown, or want of memory.
 fn answer<F: Files, K: Sink>(alloc: Global, words: &[String], files: &mut F, out: &mut K) -> Top
     ensures told { F.told files.new ≡ F.told files.old }
     ensures answered { Answered (map string_bytes words.now) (F.told files.old) (F.faults files.old) (F.faults files.new) result.status result.kept (K.taken out.old) (K.taken out.new) (K.faults out.old) (K.faults out.new) }
 {
-    match program_named(alloc, words, files) {
-        Err(refusal) => refuse(out, refusal),
-        Ok(program) => run_program(alloc, program, out),
+    let Some((mode, name)) = source_named(words) else {
+        return close(out, Refusal::Usage, b"mpc: usage\n");
+    };
+    match read_source(alloc, words, mode, name, files) {
+        Ok(src) => answer_source(alloc, mode, src.as_slice(), out),
+        Err(refusal) => refuse(alloc, out, refusal),
     }
 }
 
-/// Does what the program does for the words behind its name, `serial` and a file name that does not begin
-/// with a dash: reads the source, runs its program as one task, and writes the report.
+/// Does what the program does for the words behind its name: `check` or `serial`, and a file name that
+/// does not begin with a dash. It reads the source and checks it. For `check` it writes what was
+/// accepted; for `serial` it runs the program as one task, and writes the report.
 ///
-/// The status is 0 where that was done; 5 where there is no such file, or it is no first source; 6 for
-/// other words; 7 where the read failed; 8 where the sink failed in the report; and 10, with nothing
-/// written, where memory was wanted and not found. With 5, 6 and 7 a line stands in place of the report.
+/// The status is 0 where that was done; 5 where there is no such file, the source is refused, or it is
+/// not run yet; 6 for other words; 7 where the read failed; 8 where the sink failed in the text; and 10,
+/// with nothing written, where memory was wanted and not found. With 5, 6 and 7 a line stands in place
+/// of the text.
 pub fn mpc_serial<F: Files, K: Sink>(
     alloc: Global,
     words: &[String],
@@ -145,9 +208,9 @@ pub fn mpc_serial<F: Files, K: Sink>(
     ensures read_fault_line { result.status ≡ 7 → WroteLine read_fault_line (K.taken out.old) (K.taken out.new) (K.faults out.old) (K.faults out.new) }
     ensures refused { result.status ≡ 5 → IsRefused (map string_bytes words.now) (F.told files.old) (K.taken out.old) (K.taken out.new) (K.faults out.old) (K.faults out.new) }
     ensures refused_calmly { result.status ≡ 5 → Rose (F.faults files.old) (F.faults files.new) → ⊥ }
-    ensures missing { ToldSource (map string_bytes words.now) (F.told files.old) IsMissing → (Rose (F.faults files.old) (F.faults files.new) → ⊥) → result.status ≢ 10 → result.status ≡ 5 }
-    ensures not_built { ToldSource (map string_bytes words.now) (F.told files.old) IsNotFirst → (Rose (F.faults files.old) (F.faults files.new) → ⊥) → result.status ≢ 10 → result.status ≡ 5 }
-    ensures complete { ToldSource (map string_bytes words.now) (F.told files.old) IsSomeFirst → (Rose (F.faults files.old) (F.faults files.new) → ⊥)
+    ensures refuses { (mode : Mode) (refusal : SourceRefusal) → ToldSource (map string_bytes words.now) mode (F.told files.old) (Refuses mode refusal) → (Rose (F.faults files.old) (F.faults files.new) → ⊥) → result.status ≢ 10
+        → (result.status ≡ 5) × WroteLine (refusal_line refusal) (K.taken out.old) (K.taken out.new) (K.faults out.old) (K.faults out.new) }
+    ensures complete { (mode : Mode) → ToldSource (map string_bytes words.now) mode (F.told files.old) (IsGood mode) → (Rose (F.faults files.old) (F.faults files.new) → ⊥)
         → (Rose (K.faults out.old) (K.faults out.new) → ⊥) → result.status ≢ 10 → result.status ≡ 0 }
     ensures memory { result.status ≡ 10 → K.taken out.new ≡ K.taken out.old }
     ensures kept { result.status ≢ 0 → result.status ≢ 8 → result.kept ≡ None }

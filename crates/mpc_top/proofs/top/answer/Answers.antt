@@ -1,5 +1,7 @@
-use Rattle.std.proofs.Common.{inr}
+use Rattle.mpc_top.proofs.Answering.{answered_of}
 use Rattle.mpc_top.proofs.top.answer.Goals as goal
 
 pub returns-in-Ok-clause-answered : goal.returns-in-Ok-clause-answered
-returns-in-Ok-clause-answered g c = inr (record { program = c.in-Ok.program; first = c.in-Ok.ensures.first; ran = c.run_program.ensures })
+returns-in-Ok-clause-answered g c =
+    answered_of _ _ c.in-Some.name.now c.in-Ok.src.items c.in-Ok.ensures.content c.in-Some.mode _ _ _ _ _ _ _ _ c.in-Some.ensures c.in-Ok.ensures.calm
+    (rw c.as_slice.ensures.value at c.answer_source.ensures)
