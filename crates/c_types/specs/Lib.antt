@@ -18,3 +18,4 @@ pub mod Addresses
 pub mod FrameCode
 pub mod Units
 pub mod Typing
+pub mod Answers

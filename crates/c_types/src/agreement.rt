@@ -200,6 +200,16 @@ pub fn has_place(operand: Option<Kind>) -> bool
     }
 }
 
+/// The operand is known to be a number.
+pub fn has_number(operand: Option<Kind>) -> bool
+    ensures { result ≡ kinds.has kinds.is_number operand }
+{
+    match operand {
+        Some(kind) => is_number(kind),
+        None => false,
+    }
+}
+
 /// The operand is known to be NULL.
 pub fn has_null(operand: Option<Kind>) -> bool
     ensures { result ≡ kinds.has kinds.is_null operand }

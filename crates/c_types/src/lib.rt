@@ -8,6 +8,7 @@ mod constants;
 mod formats;
 mod kinds;
 mod known_names;
+mod making;
 mod meanings;
 mod names;
 mod refusals;
