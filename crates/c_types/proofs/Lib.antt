@@ -7,3 +7,4 @@ pub mod Order
 pub mod Laws
 pub mod ScopeMaps
 pub mod Walks
+pub mod Two

@@ -160,6 +160,16 @@ pub fn is_no_pointer(operand: Option<Kind>) -> bool
     }
 }
 
+/// The operand has a type, and is no pointer and not NULL.
+pub fn is_no_place(operand: Option<Kind>) -> bool
+    ensures { result ≡ kinds.misses kinds.points operand }
+{
+    match operand {
+        Some(kind) => !points(kind),
+        None => false,
+    }
+}
+
 /// The operand has a type, and is no MPI_Status.
 pub fn is_no_status(operand: Option<Kind>) -> bool
     ensures { result ≡ kinds.misses kinds.is_status operand }

@@ -4,6 +4,7 @@
 mod addresses;
 mod agreement;
 mod arguments;
+mod calls;
 mod constants;
 mod formats;
 mod kinds;
@@ -11,6 +12,7 @@ mod known_names;
 mod making;
 mod meanings;
 mod names;
+mod nodes;
 mod refusals;
 mod rules;
 mod scopes;
