@@ -8,3 +8,4 @@ pub mod Laws
 pub mod ScopeMaps
 pub mod Walks
 pub mod Two
+pub mod Applied

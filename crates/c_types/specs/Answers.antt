@@ -1,10 +1,16 @@
 -- What the pass answers of a part of the tree, against what is defined of it.
 use Rattle.std.specs.Prelude.{◌≡◌, List, [], ◌∷◌, Option, None, Some, Result, Ok, Err, Vec}
 use Rattle.std.specs.Global.{Global}
+use Rattle.c_tree.specs.declared.mpi.MpiFunction.{MpiFunction}
+use Rattle.c_tree.specs.declared.mpi.MpiFunction.TheVariants as function
 use Rattle.c_tree.specs.declared.program.Expr.{Expr}
 use Rattle.c_tree.specs.ProgramOf.{expr_of, exprs_of}
 use Rattle.c_tree.specs.Programs as p
+use Rattle.c_tree.specs.Syntax as x
+use Rattle.c_types.specs.declared.formats.ReadFormat.{ReadFormat}
 use Rattle.c_types.specs.declared.refusals.TypeRefusal.{TypeRefusal}
+use Rattle.c_types.specs.Drafts.{Reads}
+use Rattle.c_types.specs.Formats.{Part, format_parts}
 
 -- the refusal that is answered, if there is one
 abbrev pub fault : {A : Type 0} → Result A TypeRefusal → Option TypeRefusal
@@ -25,3 +31,21 @@ MakesAll (Err refusal) wanted = Unit {0}
 abbrev pub onto : List Expr → p.Exprs → p.Exprs
 onto [] rest = rest
 onto (first ∷ others) rest = p.More (expr_of first) (onto others rest)
+
+-- MPI_Init's arguments are not looked at, and none is evaluated
+abbrev pub row_fault : MpiFunction → Option TypeRefusal → Option TypeRefusal
+row_fault function.Init refusal = None
+row_fault other refusal = refusal
+
+abbrev pub row_made : MpiFunction → p.Exprs → p.Exprs
+row_made function.Init made = p.End
+row_made other made = made
+
+-- the format that a call's first argument is
+abbrev pub first_parts : x.Exprs → Option (List Part)
+first_parts (x.More (x.Text at text) rest) = format_parts text
+first_parts arguments = None
+
+-- the format of the first argument is read
+abbrev pub ReadsFirst : x.Exprs → Option ReadFormat → Type 0
+ReadsFirst arguments format = Reads (first_parts arguments) format

@@ -4,6 +4,7 @@
 mod addresses;
 mod agreement;
 mod arguments;
+mod call_nodes;
 mod calls;
 mod constants;
 mod formats;

@@ -13,7 +13,7 @@ use c_tree::syntax::{Base, Binary, Change, TypeName, Unary};
 use mpc_base::{Memory, Obj, Word};
 use std::alloc::Global;
 
-fn undefined() -> Expr
+pub fn undefined() -> Expr
     ensures { expr_of result ≡ typed.undefined }
 {
     Expr::Constant(Word::Undef)
