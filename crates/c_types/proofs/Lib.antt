@@ -9,3 +9,4 @@ pub mod ScopeMaps
 pub mod Walks
 pub mod Two
 pub mod Applied
+pub mod LookSteps

@@ -112,9 +112,10 @@ with_inner false base env d = with_local base env d
 
 -- ---- what the rules read
 
-abbrev pub declared_shape : Env → Bool → Base → Declarator → Bool → Initial → Shape
-declared_shape env is_static base d fits given = Item (item.Variable (record {
-  is_twice = in_top d.name env.scopes;
+-- of a variable that stands in the innermost scope already, or not, with a length that fits, or not
+abbrev pub declared_shape : Bool → Bool → Base → Declarator → Bool → Initial → Shape
+declared_shape is_twice is_static base d fits given = Item (item.Variable (record {
+  is_twice = is_twice;
   is_known = is_some (known d.name);
   is_static = is_static;
   is_array = is_array d;
@@ -126,7 +127,7 @@ declared_shape env is_static base d fits given = Item (item.Variable (record {
 
 -- a static variable is one node: its length and its initializer are read as constants
 abbrev pub static_shape : Env → Base → Declarator → Shape
-static_shape env base d = declared_shape env true base d (is_some (static_words env base d)) (initial.Constant (is_some (first_words env base d)))
+static_shape env base d = declared_shape (in_top d.name env.scopes) true base d (is_some (static_words env base d)) (initial.Constant (is_some (first_words env base d)))
 
 -- the initializer of another variable, in which the variable stands already
 abbrev pub initial_of : Env → Kind → Initializer → Initial
@@ -135,7 +136,7 @@ initial_of env kind (Value value) = initial.Value (kind_of env (wanted_by kind) 
 initial_of env kind (Values values) = initial.List
 
 abbrev pub local_shape : Env → Base → Declarator → Shape
-local_shape env base d = declared_shape env false base d (is_some (object_words base d)) (initial_of (with_local base env d) (declared_kind base d) d.initializer)
+local_shape env base d = declared_shape (in_top d.name env.scopes) false base d (is_some (object_words base d)) (initial_of (with_local base env d) (declared_kind base d) d.initializer)
 
 abbrev pub initial_outline : Env → Kind → Initializer → Outline
 initial_outline env kind Nothing = Empty
@@ -183,17 +184,25 @@ declaration_outline env d = inner_outlines d.is_static d.base env d.declarators
 abbrev pub local_made : Env → ℕ → Variable → ℕ → ℕ → p.Stmt
 local_made env line variable slot words = cond (is_aggregate variable || is_taken env slot) (p.New line slot words) (p.Unset slot)
 
--- the initializer is stored; the names are those behind the declarator
-abbrev pub initial_made : Env → ℕ → Variable → Initializer → List p.Stmt
-initial_made env line variable Nothing = []
-initial_made env line variable (Value value) =
-    p.Eval line (assigned_to (variable_value env variable) (converted (Some variable.kind) (kind_of env (wanted_by variable.kind) value) (typed env (wanted_by variable.kind) value))) ∷ []
-initial_made env line variable (Values values) = []
+-- the value of an initializer, as one of the variable's type
+abbrev pub initial_value : Env → Kind → Initializer → Option p.Expr
+initial_value env kind Nothing = None
+initial_value env kind (Value value) = Some (converted (Some kind) (kind_of env (wanted_by kind) value) (typed env (wanted_by kind) value))
+initial_value env kind (Values values) = None
+
+-- it is stored
+abbrev pub initial_made : Env → ℕ → Variable → Option p.Expr → List p.Stmt
+initial_made env line variable None = []
+initial_made env line variable (Some value) = p.Eval line (assigned_to (variable_value env variable) value) ∷ []
+
+-- a local with its initializer; the names are those behind the declarator
+abbrev pub local_stored : Env → ℕ → Variable → ℕ → ℕ → Option p.Expr → List p.Stmt
+local_stored env line variable slot words value = local_made env line variable slot words ∷ initial_made env line variable value
 
 abbrev pub declarator_made : ℕ → Bool → Base → Env → Declarator → List p.Stmt
 declarator_made line true base env d = []
 declarator_made line false base env d =
-    local_made env line (variable_of base d (Local env.slots)) env.slots (unwrap_or (object_words base d) 0) ∷ initial_made (with_local base env d) line (variable_of base d (Local env.slots)) d.initializer
+    local_stored (with_local base env d) line (variable_of base d (Local env.slots)) env.slots (unwrap_or (object_words base d) 0) (initial_value (with_local base env d) (declared_kind base d) d.initializer)
 
 abbrev pub declarators_made : ℕ → Bool → Base → Env → List Declarator → List p.Stmt
 declarators_made line is_static base env [] = []

@@ -8,6 +8,7 @@ pub mod Arguments
 pub mod Formats
 pub mod Constants
 pub mod Nodes
+pub mod Outcomes
 pub mod Calls
 pub mod Expressions
 pub mod Drafts

@@ -237,10 +237,10 @@ head_made env line Bare = []
 head_made env line (Declared declaration) = declaration_made env declaration
 head_made env line (Evaluated value) = p.Eval line (typed env None value) ∷ []
 
--- a declaration among the items of a block leaves items; any other statement is one
-abbrev pub item_onto : Env → Stmt → p.Stmt → p.Stmts → p.Stmts
-item_onto env (Declare declaration) made rest = onto (declaration_made env declaration) rest
-item_onto env other made rest = p.Then made rest
+-- what a statement is among the items of a block: a declaration leaves items, and any other statement one
+abbrev pub items_of : Env → Stmt → p.Stmt → List p.Stmt
+items_of env (Declare declaration) made = declaration_made env declaration
+items_of env other made = made ∷ []
 
 abbrev mutual
   pub stmt_made : Env → Stmt → p.Stmt
@@ -265,4 +265,4 @@ abbrev mutual
 
   pub stmts_made : Env → Stmts → p.Stmts
   stmts_made env Done = p.Done
-  stmts_made env (Then first rest) = item_onto env first (stmt_made env first) (stmts_made (after env first) rest)
+  stmts_made env (Then first rest) = onto (items_of env first (stmt_made env first)) (stmts_made (after env first) rest)

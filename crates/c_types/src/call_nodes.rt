@@ -4,9 +4,10 @@ ghost use Rattle.c_tree.specs.ProgramOf.{expr_of, exprs_of};
 ghost use Rattle.c_tree.specs.Programs as program;
 ghost use Rattle.c_tree.specs.SyntaxOf as syntax;
 ghost use Rattle.c_tree.specs.declared.program.Callee.TheVariants as callee;
-ghost use Rattle.c_types.specs.Answers.{fault, Makes, MakesAll, ReadsFirst, row_fault, row_made};
+ghost use Rattle.c_types.specs.Answers.{Makes, MakesAll, ReadsFirst, row_fault, row_made};
 ghost use Rattle.c_types.specs.Calls as calls;
 ghost use Rattle.c_types.specs.Nodes.{blame};
+ghost use Rattle.c_types.specs.Outcomes.{fault};
 ghost use Rattle.c_types.specs.Rules as rules;
 ghost use Rattle.c_types.specs.Typed as typed;
 ghost use Rattle.c_types.specs.declared.shapes.CallShape.TheVariants as call;
@@ -21,7 +22,8 @@ use crate::formats::{ReadFormat, are_printed, read_format};
 use crate::kinds::{Given, Kind};
 use crate::making::undefined;
 use crate::names::Names;
-use crate::nodes::{Looked, judge};
+use crate::nodes::Looked;
+use crate::outcomes::blamed;
 use crate::refusals::TypeRefusal;
 use crate::rules::kind;
 use crate::shapes::{CallShape, Shape};
@@ -61,7 +63,7 @@ fn applied(
     ensures made { (es : program.Exprs) → MakesAll arguments es → Makes result.made (program.Apply callee es) }
 {
     let kind = kind(shape);
-    match judge(shape, line, arguments) {
+    match blamed(shape, line, arguments) {
         Ok(arguments) => Looked {
             kind,
             made: Ok(Expr::Apply(callee, arguments)),
@@ -81,7 +83,7 @@ pub fn no_call(line: u32, arguments: Result<Vec<Expr>, TypeRefusal>) -> Looked
 {
     let shape = Shape::Call(CallShape::Nothing);
     let kind = kind(shape);
-    match judge(shape, line, arguments) {
+    match blamed(shape, line, arguments) {
         Ok(_) => Looked {
             kind,
             made: Ok(undefined()),
@@ -177,7 +179,7 @@ pub fn malloc_call(
 {
     let shape = Shape::Call(CallShape::Malloc(want, is_one_number(&given.kinds)));
     let kind = kind(shape);
-    match judge(shape, line, given.made) {
+    match blamed(shape, line, given.made) {
         Ok(arguments) => {
             let bytes = Box::new(alloc, first_of(arguments))?;
             Ok(Looked {
@@ -202,7 +204,7 @@ pub fn free_call(alloc: Global, line: u32, given: Every) -> Result<Looked, Memor
 {
     let shape = Shape::Call(CallShape::Free(is_one_pointer(&given.kinds)));
     let kind = kind(shape);
-    match judge(shape, line, given.made) {
+    match blamed(shape, line, given.made) {
         Ok(arguments) => {
             let pointer = Box::new(alloc, first_of(arguments))?;
             Ok(Looked {

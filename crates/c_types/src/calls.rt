@@ -2,6 +2,7 @@
 //! arguments of calls.
 ghost use Rattle.std.specs.Prelude.{◌≡◌};
 ghost use Rattle.c_tree.specs.SyntaxOf.{expr_of, exprs_of};
+ghost use Rattle.c_types.specs.Answers.{called_by};
 ghost use Rattle.c_types.specs.Calls as calls;
 
 use crate::agreement::{is_no_number, is_no_place};
@@ -9,6 +10,7 @@ use crate::kinds::{Decl, Given, Kind, Known, Left, Variable};
 use crate::known_names::known;
 use crate::names::Names;
 use crate::shapes::{OperandShape, Shape};
+use c_tree::mpi::MpiFunction;
 use c_tree::syntax::{Base, Expr, TypeName, Unary};
 
 /// What a name stands for: what it is declared as, or a known name.
@@ -21,6 +23,31 @@ pub fn meaning(names: &Names, name: &[u8]) -> Option<Decl>
             Some(known) => Some(Decl::Known(known)),
             None => None,
         },
+    }
+}
+
+/// What a call is of.
+#[derive(Clone, Copy, Debug)]
+pub enum Callable {
+    /// The program's own function at a place among those declared so far.
+    Own(usize),
+    Mpi(MpiFunction),
+    Printf,
+    Malloc,
+    Free,
+    Nothing,
+}
+
+pub fn callee_of(declared: Option<Decl>) -> Callable
+    ensures { result ≡ called_by declared }
+{
+    match declared {
+        Some(Decl::Function(place)) => Callable::Own(place),
+        Some(Decl::Known(Known::Mpi(function))) => Callable::Mpi(function),
+        Some(Decl::Known(Known::Printf)) => Callable::Printf,
+        Some(Decl::Known(Known::Malloc)) => Callable::Malloc,
+        Some(Decl::Known(Known::Free)) => Callable::Free,
+        _ => Callable::Nothing,
     }
 }
 

@@ -20,7 +20,7 @@ pub fn undefined() -> Expr
 }
 
 // A local's address is taken somewhere in its function.
-fn is_taken(names: &Names, slot: u32) -> bool
+pub fn is_taken(names: &Names, slot: u32) -> bool
     ensures { result ≡ typed.is_taken names.now slot }
 {
     match names.taken.get(slot as usize) {
@@ -30,7 +30,7 @@ fn is_taken(names: &Names, slot: u32) -> bool
 }
 
 // It has several words, and its value is its first place.
-fn is_aggregate(variable: Variable) -> bool
+pub fn is_aggregate(variable: Variable) -> bool
     ensures { result ≡ typed.is_aggregate variable }
 {
     variable.is_array || is_status(variable.kind)
@@ -98,7 +98,7 @@ pub fn element_loaded(alloc: Global, pointer: Option<Kind>, place: Expr) -> Resu
     }
 }
 
-fn variable_value(alloc: Global, names: &Names, variable: Variable) -> Result<Expr, Memory>
+pub fn variable_value(alloc: Global, names: &Names, variable: Variable) -> Result<Expr, Memory>
     ensures { IfOk result (λ r. expr_of r ≡ typed.variable_value names.now variable) }
 {
     match kept_local(names, variable, variable.home) {
@@ -257,7 +257,7 @@ fn change_operation(change: Change) -> Operation
 }
 
 // The left side is typed as a value: it says which local or place is assigned.
-fn assigned_to(left: Expr, value: Box<Expr>) -> Expr
+pub fn assigned_to(left: Expr, value: Box<Expr>) -> Expr
     ensures { expr_of result ≡ typed.assigned_to (expr_of left) (expr_of value.value) }
 {
     match left {

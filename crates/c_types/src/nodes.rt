@@ -1,15 +1,16 @@
 //! What is found of an expression, by what is found of its operands: its type, and its typed form or the
 //! first refusal in it.
-ghost use Rattle.std.specs.Prelude.{◌≡◌, IfOk, Ok, None, false};
+ghost use Rattle.std.specs.Prelude.{◌≡◌, IfOk, None, false};
 ghost use Rattle.c_tree.specs.ProgramOf.{expr_of};
 ghost use Rattle.c_tree.specs.Programs as program;
 ghost use Rattle.c_tree.specs.declared.program.Scalar.TheVariants as scalar;
 ghost use Rattle.c_tree.specs.declared.program.Width.TheVariants as width;
-ghost use Rattle.c_types.specs.Answers.{fault, Makes};
+ghost use Rattle.c_types.specs.Answers.{Makes};
 ghost use Rattle.c_types.specs.Calls as calls;
 ghost use Rattle.c_types.specs.Constants as constants;
 ghost use Rattle.c_types.specs.Env.{first_some};
 ghost use Rattle.c_types.specs.Nodes.{blame};
+ghost use Rattle.c_types.specs.Outcomes.{fault};
 ghost use Rattle.c_types.specs.Rules as rules;
 ghost use Rattle.c_types.specs.Typed as typed;
 ghost use Rattle.c_types.specs.declared.shapes.OperandShape.TheVariants as operand;
@@ -23,8 +24,9 @@ use crate::making::{
     unary_made,
 };
 use crate::meanings::{binary_shape, meaning_of};
+use crate::outcomes::{blamed, both};
 use crate::refusals::TypeRefusal;
-use crate::rules::{kind, rule};
+use crate::rules::kind;
 use crate::shapes::{OperandShape, OperatorShape, Shape};
 use c_tree::program::Expr;
 use c_tree::syntax::{Base, Binary, Change, TypeName, Unary};
@@ -38,39 +40,6 @@ pub struct Looked {
     pub made: Result<Expr, TypeRefusal>,
 }
 
-/// What stands in a node, unless the node breaks a rule itself.
-pub fn judge<A: Drop>(
-    shape: Shape,
-    line: u32,
-    inside: Result<A, TypeRefusal>,
-) -> Result<A, TypeRefusal>
-    ensures refused { fault result ≡ blame (rules.rule shape) line (fault inside) }
-    ensures made { IfOk result (λ p. inside ≡ Ok p) }
-{
-    match rule(shape) {
-        Some(rule) => Err(TypeRefusal { rule, line }),
-        None => inside,
-    }
-}
-
-// The typed forms of two operands, or the first refusal in them.
-fn both(
-    x: Result<Expr, TypeRefusal>,
-    y: Result<Expr, TypeRefusal>,
-) -> Result<(Expr, Expr), TypeRefusal>
-    ensures refused { fault result ≡ first_some (fault x) (fault y) }
-    ensures left { IfOk result (λ p. x ≡ Ok p.0) }
-    ensures right { IfOk result (λ p. y ≡ Ok p.1) }
-{
-    match x {
-        Err(refusal) => Err(refusal),
-        Ok(x) => match y {
-            Err(refusal) => Err(refusal),
-            Ok(y) => Ok((x, y)),
-        },
-    }
-}
-
 /// A node without operands.
 pub fn leaf(shape: Shape, line: u32, value: Expr) -> Looked
     ensures kind { result.kind ≡ rules.kind shape }
@@ -79,7 +48,7 @@ pub fn leaf(shape: Shape, line: u32, value: Expr) -> Looked
 {
     Looked {
         kind: kind(shape),
-        made: judge(shape, line, Ok(value)),
+        made: blamed(shape, line, Ok(value)),
     }
 }
 
@@ -94,7 +63,7 @@ pub fn field(alloc: Global, line: u32, name: &[u8], x: Looked) -> Result<Looked,
 {
     let shape = Shape::Operand(OperandShape::Field(is_field(name), x.kind));
     let kind = kind(shape);
-    match judge(shape, line, x.made) {
+    match blamed(shape, line, x.made) {
         Ok(value) => Ok(Looked {
             kind,
             made: Ok(field_value(alloc, is_tag(name), value)?),
@@ -121,7 +90,7 @@ pub fn step(line: u32, change: Change, before: bool, side: Left, x: Looked) -> L
 {
     let shape = Shape::Operand(OperandShape::Stepped(side));
     let kind = kind(shape);
-    match judge(shape, line, x.made) {
+    match blamed(shape, line, x.made) {
         Ok(value) => Looked {
             kind,
             made: Ok(stepped(change, before, x.kind, value)),
@@ -149,7 +118,7 @@ pub fn unary(
 {
     let shape = unary_shape(sign, side, x.kind);
     let kind = kind(shape);
-    match judge(shape, line, x.made) {
+    match blamed(shape, line, x.made) {
         Ok(value) => Ok(Looked {
             kind,
             made: Ok(unary_made(alloc, sign, x.kind, value)?),
@@ -178,7 +147,7 @@ pub fn cast(
 {
     let shape = cast_shape(want, to, over_malloc, x.kind);
     let kind = kind(shape);
-    match judge(shape, line, x.made) {
+    match blamed(shape, line, x.made) {
         Ok(value) => Ok(Looked {
             kind,
             made: Ok(cast_made(alloc, to, x.kind, value)?),
@@ -200,7 +169,7 @@ pub fn element(alloc: Global, line: u32, x: Looked, y: Looked) -> Result<Looked,
 {
     let shape = Shape::Operand(OperandShape::Element(x.kind, y.kind));
     let kind = kind(shape);
-    match judge(shape, line, both(x.made, y.made)) {
+    match blamed(shape, line, both(x.made, y.made)) {
         Ok((pointer, index)) => {
             let place = Expr::Offset(
                 false,
@@ -236,7 +205,7 @@ pub fn binary(
 {
     let shape = binary_shape(sign, x.kind, y.kind);
     let kind = kind(shape);
-    match judge(shape, line, both(x.made, y.made)) {
+    match blamed(shape, line, both(x.made, y.made)) {
         Ok((left, right)) => Ok(Looked {
             kind,
             made: Ok(binary_made(alloc, meaning_of(sign), x.kind, y.kind, left, right)?),
@@ -265,7 +234,7 @@ pub fn choice(
 {
     let shape = Shape::Operator(OperatorShape::Chosen(test.kind, x.kind, y.kind));
     let kind = kind(shape);
-    match judge(shape, line, with(test.made, both(x.made, y.made))) {
+    match blamed(shape, line, both(test.made, both(x.made, y.made))) {
         Ok((test, (left, right))) => {
             let value = Expr::Choice(
                 Box::new(alloc, test)?,
@@ -281,24 +250,6 @@ pub fn choice(
             kind,
             made: Err(refusal),
         }),
-    }
-}
-
-// The typed form of an operand before those of two others, or the first refusal in them.
-fn with(
-    x: Result<Expr, TypeRefusal>,
-    rest: Result<(Expr, Expr), TypeRefusal>,
-) -> Result<(Expr, (Expr, Expr)), TypeRefusal>
-    ensures refused { fault result ≡ first_some (fault x) (fault rest) }
-    ensures first { IfOk result (λ p. x ≡ Ok p.0) }
-    ensures others { IfOk result (λ p. rest ≡ Ok p.1) }
-{
-    match x {
-        Err(refusal) => Err(refusal),
-        Ok(x) => match rest {
-            Err(refusal) => Err(refusal),
-            Ok(rest) => Ok((x, rest)),
-        },
     }
 }
 
@@ -334,7 +285,7 @@ pub fn assign(
 {
     let shape = assigned_shape(sign, side, x.kind, y.kind);
     let kind = kind(shape);
-    match judge(shape, line, both(x.made, y.made)) {
+    match blamed(shape, line, both(x.made, y.made)) {
         Ok((left, right)) => Ok(Looked {
             kind,
             made: Ok(assignment(alloc, sign, x.kind, y.kind, left, right)?),

@@ -1,8 +1,10 @@
 //! What a declarator declares.
-ghost use Rattle.std.specs.Prelude.{◌≡◌};
+ghost use Rattle.std.specs.Prelude.{◌≡◌, ◌<◌, ◌^◌, IfSome};
 ghost use Rattle.c_tree.specs.SyntaxOf.{declarator_of};
+ghost use Rattle.c_types.specs.Calls as calls;
 ghost use Rattle.c_types.specs.Declarations as declarations;
 
+use crate::constants::array_length;
 use crate::kinds::{Home, Kind, Variable};
 use c_tree::syntax::{Base, Declarator};
 
@@ -45,5 +47,49 @@ pub fn variable_of(base: Base, d: &Declarator, home: Home) -> Variable
         kind: declared_kind(base, d),
         is_array: is_array(d),
         home,
+    }
+}
+
+// How many elements the variable has, where its length is a constant in the limits.
+fn elements(d: &Declarator) -> Option<u32>
+    ensures { result ≡ declarations.elements (declarator_of d.now).len }
+{
+    match &d.len {
+        Some(len) => array_length(len),
+        None => Some(1),
+    }
+}
+
+/// How many words the variable has, where its length is a constant in the limits.
+pub fn object_words(base: Base, d: &Declarator) -> Option<u64>
+    ensures value { result ≡ declarations.object_words base (declarator_of d.now) }
+    ensures limit { IfSome result (λ words. words < 2 ^ 34) }
+{
+    match elements(d) {
+        Some(elements) => match element_kind(base, d) {
+            Kind::Plain(Base::Status) => Some(u64::from(elements) * 3),
+            _ => Some(u64::from(elements)),
+        },
+        None => None,
+    }
+}
+
+// The element of the pointer that a malloc is for, where it has a size.
+fn sized(base: Base) -> Option<Base>
+    ensures { result ≡ calls.sized base }
+{
+    match base {
+        Base::Int | Base::Long => Some(base),
+        _ => None,
+    }
+}
+
+/// The element of the pointer that a malloc on the right side is for, where the left side has this type.
+pub fn wanted_by(kind: Kind) -> Option<Base>
+    ensures { result ≡ calls.wanted_by kind }
+{
+    match kind {
+        Kind::Pointer(element) => sized(element),
+        _ => None,
     }
 }
