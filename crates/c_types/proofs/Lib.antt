@@ -10,3 +10,4 @@ pub mod Walks
 pub mod Two
 pub mod Applied
 pub mod LookSteps
+pub mod CallForms

@@ -1,7 +1,7 @@
 -- Steps of the pass over the arguments of calls.
 use Rattle.std.proofs.Common.{◌≡◌, ℕ, suc, zero, ◌+◌, ◌-◌, ◌<◌, ◌≤◌, List, [], ◌∷◌, ◌++◌, refl, sym, ap, ◌∙◌, subst, Vec, Global, Bool, true, false, cond, Option, None, Some, is_some, Result, Ok, Err, length, drop, get_or, slice_get, append_assoc, add-one, arith, ◌⊎◌, inl, inr}
 use Rattle.std.proofs.lemmas.List.{drop_more, drop_all}
-use Rattle.std.proofs.lemmas.Option.{slice_get_cases}
+use Rattle.std.proofs.lemmas.Option.{slice_get_cases, slice_get-get_or}
 use Rattle.c_tree.specs.declared.mpi.Argument.{Argument}
 use Rattle.c_tree.specs.declared.program.Expr.{Expr}
 use Rattle.c_tree.specs.ProgramOf as program
@@ -14,7 +14,7 @@ use Rattle.c_types.specs.declared.kinds.Kind.{Kind}
 use Rattle.c_types.specs.declared.refusals.TypeRefusal.{TypeRefusal}
 use Rattle.c_types.specs.Answers.{Makes, MakesAll, MakesOnto, onto, due_by}
 use Rattle.c_types.specs.Calls.{special, or_typed, Every, Expressions}
-use Rattle.c_types.specs.Env.{Env, first_some}
+use Rattle.c_types.specs.Env.{Env, Scope, first_some}
 use Rattle.c_types.specs.Expressions.{kind_of, kinds, givens, outline, argument_outline}
 use Rattle.c_types.specs.Nodes.{first_of, Empty, Outline}
 use Rattle.c_types.specs.Outcomes.{fault}
@@ -50,6 +50,16 @@ some_assoc (Some v) b c = refl
 left_out : (special : Option Given) (inside : Outline) → cond (is_some special) None (first_of inside) ≡ first_of (cond (is_some special) Empty inside)
 left_out None inside = refl
 left_out (Some given) inside = refl
+
+-- an element that is read twice
+pub same_element : (es : List x.Expr) (i : ℕ) (a b : x.Expr) → i < length es → a ≡ get_or es i a → b ≡ get_or es i b → b ≡ a
+same_element es i a b h ea eb =
+    let one : slice_get es i ≡ Some (get_or es i a) = slice_get-get_or es i a h in
+    let two : slice_get es i ≡ Some (get_or es i b) = slice_get-get_or es i b h in
+    cc
+
+pub special_of : (scopes : List Scope) (a b : x.Expr) (s : Option Given) → b ≡ a → s ≡ special scopes (expr_of b) → s ≡ special scopes (expr_of a)
+special_of scopes a b s same is = is ∙ ap (λ v. special scopes (expr_of v)) same
 
 module _ (env : Env) where
   pub kinds_on : (es : List x.Expr) (i : ℕ) (e : x.Expr) (ks new : List (Option Kind)) (k : Option Kind) (goal : List (Option Kind)) → i < length es → e ≡ get_or es i e
