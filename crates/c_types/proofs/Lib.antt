@@ -11,3 +11,4 @@ pub mod Two
 pub mod Applied
 pub mod LookSteps
 pub mod CallForms
+pub mod Passes

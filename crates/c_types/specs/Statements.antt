@@ -15,17 +15,18 @@ use Rattle.c_types.specs.declared.kinds.Decl.TheVariants as decl
 use Rattle.c_types.specs.declared.kinds.Escapes.{Escapes}
 use Rattle.c_types.specs.declared.kinds.Home.{Home}
 use Rattle.c_types.specs.declared.kinds.Home.TheVariants as home
+use Rattle.c_types.specs.declared.refusals.TypeRefusal.{TypeRefusal}
 use Rattle.c_types.specs.declared.shapes.StatementShape.TheVariants as shape
 use Rattle.c_types.specs.declared.shapes.Shape.{Shape}
 use Rattle.c_types.specs.declared.shapes.Shape.TheVariants.{Statement}
-use Rattle.c_types.specs.Calls.{meaning}
 use Rattle.c_types.specs.Constants.{on_both}
 use Rattle.c_types.specs.Declarations.{declared, declaration_outline, declaration_made}
 use Rattle.c_types.specs.Env as env
-use Rattle.c_types.specs.Env.{Env, enter_scope, leave_scope}
+use Rattle.c_types.specs.Env.{Env, enter_scope, find, leave_scope}
 use Rattle.c_types.specs.Expressions.{kind_of, outline}
 use Rattle.c_types.specs.Nodes as nodes
 use Rattle.c_types.specs.Nodes.{Outline, At}
+use Rattle.c_types.specs.Rules.{rule}
 use Rattle.c_types.specs.Typed.{typed, converted}
 
 -- ---- statements that share variables
@@ -53,7 +54,7 @@ declared_level env declared = None
 
 -- the level of the variable that a name stands for
 abbrev pub level_of : Env → env.Name → Option Level
-level_of env name = declared_level env (meaning name env.scopes)
+level_of env name = declared_level env (find name env.scopes)
 
 -- the level of a single's variables, which all have that one
 abbrev pub one_level : Level → Level → Option Level
@@ -63,11 +64,18 @@ one_level a b = cond (nat_eq (rank a) (rank b)) (Some a) None
 abbrev pub wider_level : Level → Level → Option Level
 wider_level a b = Some (cond (nat_le (rank a) (rank b)) b a)
 
--- the level of the variables that these names stand for, where there is a name and each variable has a level
-abbrev pub levels_of : (Level → Level → Option Level) → Env → List env.Name → Option Level
-levels_of join env [] = None
-levels_of join env (name ∷ []) = level_of env name
-levels_of join env (name ∷ other ∷ names) = on_both join (level_of env name) (levels_of join env (other ∷ names))
+abbrev pub joined_level : Bool → Level → Level → Option Level
+joined_level false a b = one_level a b
+joined_level true a b = wider_level a b
+
+abbrev pub levels_from : Bool → Env → Option Level → List env.Name → Option Level
+levels_from is_barrier env found [] = found
+levels_from is_barrier env found (name ∷ names) = levels_from is_barrier env (on_both (joined_level is_barrier) found (level_of env name)) names
+
+-- the level of the variables of a single or a barrier, where there is a name and each variable has a level
+abbrev pub levels_of : Bool → Env → List env.Name → Option Level
+levels_of is_barrier env [] = None
+levels_of is_barrier env (name ∷ names) = levels_from is_barrier env (level_of env name) names
 
 abbrev pub single_kind : Bool → HlsKind
 single_kind true = hls.Nowait
@@ -77,10 +85,10 @@ abbrev pub with_construct : HlsKind → Option Level → Env → Env
 with_construct kind found env = record env { constructs = env.constructs ++ record { kind = kind; level = unwrap_or found level.Core } ∷ [] }
 
 abbrev pub with_single : List env.Name → Bool → Env → Env
-with_single names nowait env = with_construct (single_kind nowait) (levels_of one_level env names) env
+with_single names nowait env = with_construct (single_kind nowait) (levels_of false env names) env
 
 abbrev pub with_barrier : List env.Name → Env → Env
-with_barrier names env = with_construct hls.Barrier (levels_of wider_level env names) env
+with_barrier names env = with_construct hls.Barrier (levels_of true env names) env
 
 -- ---- how control leaves a statement
 
@@ -171,16 +179,21 @@ abbrev pub maybe_tested : ℕ → Option (Option Kind) → Outline → Outline
 maybe_tested line None inside = inside
 maybe_tested line (Some test) inside = tested line test inside
 
+-- its refusal comes before those of what stands in it
+abbrev pub maybe_blame : ℕ → Option (Option Kind) → Option TypeRefusal → Option TypeRefusal
+maybe_blame line None inside = inside
+maybe_blame line (Some test) inside = nodes.blame (rule (Statement (shape.Tested test))) line inside
+
 abbrev pub head_outline : Env → ForHead → Outline
 head_outline env Bare = nodes.Empty
 head_outline env (Declared declaration) = declaration_outline env declaration
 head_outline env (Evaluated value) = outline env None value
 
 abbrev pub single_shape : Env → Bool → List env.Name → Stmt → Shape
-single_shape env in_loop names body = Statement (shape.Single (is_some (levels_of one_level env names)) (is_closed in_loop (escapes body)) (length env.constructs))
+single_shape env in_loop names body = Statement (shape.Single (is_some (levels_of false env names)) (is_closed in_loop (escapes body)) (length env.constructs))
 
 abbrev pub barrier_shape : Env → List env.Name → Shape
-barrier_shape env names = Statement (shape.Barrier (is_some (levels_of wider_level env names)) (length env.constructs))
+barrier_shape env names = Statement (shape.Barrier (is_some (levels_of true env names)) (length env.constructs))
 
 -- the nodes of a statement; the flag says whether a loop is round it
 abbrev mutual
@@ -227,9 +240,12 @@ maybe_typed env None = None
 maybe_typed env (Some value) = Some (typed env None value)
 
 -- a returned value becomes one of the type that is due
+abbrev pub returned_as : Kind → Option (Option Kind) → Option p.Expr → Option p.Expr
+returned_as due (Some given) (Some value) = Some (converted (Some due) given value)
+returned_as due given value = value
+
 abbrev pub returned : Env → Option Expr → Option p.Expr
-returned env None = None
-returned env (Some value) = Some (converted (Some env.returns) (kind_of env None value) (typed env None value))
+returned env value = returned_as env.returns (maybe_kind env value) (maybe_typed env value)
 
 -- what the head of a for leaves; an expression has the line of the for
 abbrev pub head_made : Env → ℕ → ForHead → List p.Stmt

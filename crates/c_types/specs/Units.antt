@@ -204,19 +204,20 @@ abbrev pub ending_of : Function → Kind → Ending
 ending_of f Void = ending.Void
 ending_of f kind = cond (is_called_main f) ending.Zero ending.Missing
 
--- the typed form of a definition
+-- the typed form of a definition, by what is known behind its parameters
 abbrev pub function_made : Env → Function → Body → p.Function
-function_made env f body = record {
-  params = take (length f.params) (behind_params env f).taken;
-  slots = (after_all (behind_params env f) body.items).slots;
-  body = stmts_made (behind_params env f) body.items;
+function_made inner f body = record {
+  params = take (length f.params) inner.taken;
+  slots = (after_all inner body.items).slots;
+  body = stmts_made inner body.items;
   ending = ending_of f (answer_kind f.returns);
   end_line = body.end_line;
 }
 
+-- a prototype leaves none
 abbrev pub body_made : Env → Function → Option Body → List p.Function
-body_made env f None = []
-body_made env f (Some body) = function_made env f body ∷ []
+body_made inner f None = []
+body_made inner f (Some body) = function_made inner f body ∷ []
 
 -- ---- directives that give variables a level
 
@@ -232,39 +233,40 @@ abbrev pub home_target : List StaticVar → Home → Option ℕ
 home_target globals (home.Static number) = cond (unlevelled (slice_get globals number)) (Some number) None
 home_target globals (home.Local slot) = None
 
--- the number of the variable that a name stands for, where it may be given a level
+-- the number of the variable that a declaration stands for, where it may be given a level
 abbrev pub declared_target : List StaticVar → Option Decl → Option ℕ
 declared_target globals (Some (decl.Variable variable)) = cond (may_be_shared variable) (home_target globals variable.home) None
 declared_target globals declared = None
 
-abbrev pub target : Env → List StaticVar → env.Name → Option ℕ
-target env globals name = declared_target globals (find name env.scopes)
+abbrev pub target : Env → env.Name → Option ℕ
+target env name = declared_target env.globals (find name env.scopes)
 
 abbrev pub levelled_at : Level → List StaticVar → ℕ → Option StaticVar → List StaticVar
 levelled_at level globals number None = globals
 levelled_at level globals number (Some variable) = set globals number (record variable { level = Some level })
 
-abbrev pub levelled : Level → List StaticVar → Option ℕ → List StaticVar
-levelled level globals None = globals
-levelled level globals (Some number) = levelled_at level globals number (slice_get globals number)
+-- the variable of this number with the level
+abbrev pub levelled : Level → Env → Option ℕ → Env
+levelled level env None = env
+levelled level env (Some number) = record env { globals = levelled_at level env.globals number (slice_get env.globals number) }
 
--- the variables with the level given to these names, one after the other
-abbrev pub with_level : Env → Level → List StaticVar → List env.Name → List StaticVar
-with_level env level globals [] = globals
-with_level env level globals (name ∷ names) = with_level env level (levelled level globals (target env globals name)) names
+-- the level is given to these names, one after the other
+abbrev pub with_level : Level → Env → List env.Name → Env
+with_level level env [] = env
+with_level level env (name ∷ names) = with_level level (levelled level env (target env name)) names
 
 -- each of these names may be given the level; one that stands twice has it the second time
-abbrev pub may_level : Env → Level → List StaticVar → List env.Name → Bool
-may_level env level globals [] = true
-may_level env level globals (name ∷ names) = is_some (target env globals name) && may_level env level (levelled level globals (target env globals name)) names
+abbrev pub may_level : Level → Env → List env.Name → Bool
+may_level level env [] = true
+may_level level env (name ∷ names) = is_some (target env name) && may_level level (levelled level env (target env name)) names
 
 abbrev pub scope_shape : Env → Level → List env.Name → Shape
-scope_shape env level names = shape.Item (item.Scope (not env.has_definition && may_level env level env.globals names))
+scope_shape env level names = shape.Item (item.Scope (not env.has_definition && may_level level env names))
 
 -- ---- units
 
 abbrev pub after_item : Env → Item → Env
-after_item env (Scope at level names) = record env { globals = with_level env level env.globals names }
+after_item env (Scope at level names) = with_level level env names
 after_item env (Variables declaration) = with_globals declaration.base env declaration.declarators
 after_item env (Defined f) = after_function env f
 
@@ -281,11 +283,15 @@ abbrev pub items_outline : Env → List Item → Outline
 items_outline env [] = Empty
 items_outline env (item ∷ rest) = Then (item_outline env item) (items_outline (after_item env item) rest)
 
+abbrev pub item_made : Env → Item → List p.Function
+item_made env (Scope at level names) = []
+item_made env (Variables declaration) = []
+item_made env (Defined f) = body_made (behind_params env f) f f.body
+
+-- the definitions in order
 abbrev pub functions_made : Env → List Item → List p.Function
 functions_made env [] = []
-functions_made env (Scope at level names ∷ rest) = functions_made (after_item env (Scope at level names)) rest
-functions_made env (Variables declaration ∷ rest) = functions_made (after_item env (Variables declaration)) rest
-functions_made env (Defined f ∷ rest) = body_made env f f.body ++ functions_made (after_item env (Defined f)) rest
+functions_made env (item ∷ rest) = item_made env item ++ functions_made (after_item env item) rest
 
 -- how many file-scope variables there are
 abbrev pub variable_count : List Item → ℕ

@@ -16,14 +16,14 @@ use crate::kinds::{Decl, Home, Kind, Variable};
 use crate::known_names::known;
 use crate::making::{assigned_to, converted, is_aggregate, is_taken, variable_value};
 use crate::names::Names;
-use crate::outcomes::blamed;
+use crate::outcomes::{appended, blamed, then};
 use crate::refusals::TypeRefusal;
 use crate::shapes::{Declared, Initial, ItemShape, Shape};
 use crate::variables::{
     declared_kind, element_kind, is_array, object_words, variable_of, wanted_by,
 };
 use c_tree::program::{Expr, Stmt};
-use c_tree::syntax::{Base, Declarator, Initializer};
+use c_tree::syntax::{Base, Declaration, Declarator, Initializer};
 use mpc_base::{Memory, StaticVar, Word, Words};
 use std::alloc::Global;
 
@@ -288,4 +288,86 @@ fn pass_local(
         Ok(value) => Ok(Ok(local_stored(alloc, names, line, variable, slot, len, value)?)),
         Err(refusal) => Ok(Err(refusal)),
     }
+}
+
+/// The declarators of a file-scope declaration.
+pub fn pass_globals(
+    alloc: Global,
+    base: Base,
+    names: &mut Names,
+    all: &[Declarator],
+) -> Result<Result<(), TypeRefusal>, Memory>
+    ensures names { OnOk result (names.new
+        ≡ declarations.with_globals base names.old (map declarator_of all.now)) }
+    ensures first { IfOk result (λ r. fault r
+        ≡ first_of (declarations.global_outlines base names.old (map declarator_of all.now))) }
+{
+    let mut made = Ok(());
+    for d in all {
+        let next = pass_global(alloc, base, names, d)?;
+        made = then(made, next);
+    }
+    Ok(made)
+}
+
+// A declarator in a function.
+fn pass_inner(
+    alloc: Global,
+    line: u32,
+    is_static: bool,
+    base: Base,
+    names: &mut Names,
+    d: &Declarator,
+) -> Result<Result<Vec<Stmt>, TypeRefusal>, Memory>
+    ensures names { OnOk result (names.new
+        ≡ declarations.with_inner is_static base names.old (declarator_of d.now)) }
+    ensures first { IfOk result (λ r. fault r
+        ≡ first_of (declarations.inner_outline is_static base names.old (declarator_of d.now))) }
+    ensures made { IfOk result (λ r. IfOk r (λ items. map program.stmt_of items.items
+        ≡ declarations.declarator_made line is_static base names.old (declarator_of d.now))) }
+{
+    if is_static {
+        pass_static(alloc, base, names, d)
+    } else {
+        pass_local(alloc, line, base, names, d)
+    }
+}
+
+// The declarators of a declaration in a function.
+fn pass_inners(
+    alloc: Global,
+    line: u32,
+    is_static: bool,
+    base: Base,
+    names: &mut Names,
+    all: &[Declarator],
+) -> Result<Result<Vec<Stmt>, TypeRefusal>, Memory>
+    ensures names { OnOk result (names.new
+        ≡ declarations.with_inners is_static base names.old (map declarator_of all.now)) }
+    ensures first { IfOk result (λ r. fault r
+        ≡ first_of (declarations.inner_outlines is_static base names.old (map declarator_of all.now))) }
+    ensures made { IfOk result (λ r. IfOk r (λ items. map program.stmt_of items.items
+        ≡ declarations.declarators_made line is_static base names.old (map declarator_of all.now))) }
+{
+    let mut made = Ok(Vec::new(alloc));
+    for d in all {
+        let next = pass_inner(alloc, line, is_static, base, names, d)?;
+        made = appended(made, next)?;
+    }
+    Ok(made)
+}
+
+/// A declaration in a function: the statements that it leaves.
+pub fn pass_declaration(
+    alloc: Global,
+    names: &mut Names,
+    d: &Declaration,
+) -> Result<Result<Vec<Stmt>, TypeRefusal>, Memory>
+    ensures names { OnOk result (names.new ≡ declarations.declared names.old (declaration_of d.now)) }
+    ensures first { IfOk result (λ r. fault r
+        ≡ first_of (declarations.declaration_outline names.old (declaration_of d.now))) }
+    ensures made { IfOk result (λ r. IfOk r (λ items. map program.stmt_of items.items
+        ≡ declarations.declaration_made names.old (declaration_of d.now))) }
+{
+    pass_inners(alloc, d.at.line, d.is_static, d.base, names, &d.declarators)
 }
