@@ -12,3 +12,4 @@ pub mod Applied
 pub mod LookSteps
 pub mod CallForms
 pub mod Passes
+pub mod Checked
