@@ -63,3 +63,31 @@ none_refused {ts = ts} (lexed.here {s} {bytes} c cs is nothing) g =
     let v = subst (λ o. View s bytes o ts) (nothing_found s bytes (piece_at s.fresh s.known bytes) refl nothing) (view g) in
     let e : c ∷ cs ≡ [] = sym is ∙ v.0 in cc
 none_refused {ts = ts} (lexed.later {s} {bytes} f word rest is t h) g = none_refused h (begun s f bytes word rest ts is t g).2
+
+-- the refusal of bytes, by what is found at their front
+abbrev RefusalView : State → List ℕ → Option (Found × ℕ) → LexRefusal → Type 0
+RefusalView s bytes None r = r ≡ record { line = s.place.line; col = s.place.col }
+RefusalView s bytes (Some (f, n)) r = Refuses (behind_piece s f (take n bytes)) (drop n bytes) r
+
+refusal_view : {s : State} {bytes : List ℕ} {r : LexRefusal} → Refuses s bytes r → RefusalView s bytes (piece_at s.fresh s.known bytes) r
+refusal_view (lexed.here {s} {bytes} c cs is nothing) =
+    subst (λ o. RefusalView s bytes o (record { line = s.place.line; col = s.place.col })) (sym (nothing_found s bytes (piece_at s.fresh s.known bytes) refl nothing)) refl
+refusal_view (lexed.later {s} {bytes} {r} f word rest is t h) =
+    let w = word_front bytes word rest is in
+    let d = word_behind bytes word rest is in
+    subst (λ o. RefusalView s bytes o r) (sym (found s f bytes word rest is t))
+    (subst (λ l. Refuses (behind_piece s f (take (length word) bytes)) l r) (sym d) (subst (λ w. Refuses (behind_piece s f w) rest r) (sym w) h))
+
+-- the refusal of bytes at whose front a piece stands
+refused_behind : (s : State) (f : Found) (bytes word rest : List ℕ) (r : LexRefusal) → bytes ≡ word ++ rest → Takes s f word rest → Refuses s bytes r → Refuses (behind_piece s f word) rest r
+refused_behind s f bytes word rest r is t h =
+    let w = word_front bytes word rest is in
+    let d = word_behind bytes word rest is in
+    let v = subst (λ o. RefusalView s bytes o r) (found s f bytes word rest is t) (refusal_view h) in
+    subst (λ w. Refuses (behind_piece s f w) rest r) w (subst (λ l. Refuses (behind_piece s f (take (length word) bytes)) l r) d v)
+
+-- a source is refused at one place
+pub same_refusal : {s : State} {bytes : List ℕ} {r q : LexRefusal} → Refuses s bytes r → Refuses s bytes q → r ≡ q
+same_refusal {q = q} (lexed.here {s} {bytes} c cs is nothing) g =
+    sym (subst (λ o. RefusalView s bytes o q) (nothing_found s bytes (piece_at s.fresh s.known bytes) refl nothing) (refusal_view g))
+same_refusal {q = q} (lexed.later {s} {bytes} {r} f word rest is t h) g = same_refusal h (refused_behind s f bytes word rest q is t g)

@@ -1,3 +1,4 @@
 pub mod SyntaxRows
 pub mod ProgramRows
+pub mod Fair
 pub mod MpiNames

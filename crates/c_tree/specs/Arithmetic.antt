@@ -1,5 +1,5 @@
 -- What operations on numbers give, or their faults (C99, sections 6.5.3 and 6.5.5 to 6.5.12).
-use Rattle.std.specs.Prelude.{ℕ, ℤ, pos, ◌+ℤ◌, ◌-ℤ◌, ◌*ℤ◌, ◌^◌, Bool, not, ◌&&◌, if◌then◌else◌, neg_ℤ, int_le, int_lt, int_div, int_rem, unsigned_abs, Result, Ok, Err}
+use Rattle.std.specs.Prelude.{ℤ, pos, ◌+ℤ◌, ◌-ℤ◌, ◌*ℤ◌, ◌^◌, Bool, not, ◌&&◌, if◌then◌else◌, neg_ℤ, int_le, int_lt, int_div, int_rem, unsigned_abs, Result, Ok, Err}
 use Rattle.std.specs.Int.{int_bit_and, int_bit_or, int_bit_xor, int_bit_not, int_shr, w64}
 use Rattle.std.specs.Ordering.{int_eq}
 use Rattle.mpc_base.specs.declared.faults.Fault.{Fault}

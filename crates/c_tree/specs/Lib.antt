@@ -8,3 +8,9 @@ pub mod Programs
 pub mod ProgramOf
 pub mod MpiTable
 pub mod MpiScripts
+pub mod Words
+pub mod Scripts
+pub mod Evaluation
+pub mod Execution
+pub mod Next
+pub mod NextLaws

@@ -6,6 +6,7 @@
 
 pub mod arithmetic;
 pub mod formats;
+mod laws;
 pub mod mpi;
 mod names;
 pub mod program;
@@ -15,6 +16,7 @@ pub mod syntax;
 mod trees;
 mod variables;
 
+pub use laws::next_laws;
 pub use names::{Identifier, Identifiers};
 pub use trees::{Expr, Function, Program, Stmt};
 pub use variables::Globals;

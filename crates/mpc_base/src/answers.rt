@@ -32,13 +32,21 @@ pub enum Answer {
     Gives(Word),
     /// The request of a posting, the posting's number, its partner's number or 0, and how many words
     /// were moved.
-    Posted { req: u32, post: u32, met: u32, words: u32 },
+    Posted {
+        req: u32,
+        post: u32,
+        met: u32,
+        words: u32,
+    },
     /// The status of a completed request, or of a message that fits.
     Got(Status),
     /// The status, where a request is complete or a message fits.
     Flag(Option<Status>),
     /// The index of the completed request, or -3 where none is active, and its status.
-    Any { index: i32, status: Status },
+    Any {
+        index: i32,
+        status: Status,
+    },
     /// What the task does at a `single`.
     Entered(Way),
 }

@@ -11,62 +11,131 @@ use crate::values::{Datatype, Obj, Word};
 #[derive(Debug, Clone, Drop)]
 pub enum Call {
     /// The word at a place.
-    Load { at: Word },
+    Load {
+        at: Word,
+    },
     /// A word for a place.
-    Store { at: Word, word: Word },
+    Store {
+        at: Word,
+        word: Word,
+    },
     /// A local object of so many words.
-    New { len: u32 },
+    New {
+        len: u32,
+    },
     /// The end of a local object.
-    Drop { obj: Obj },
+    Drop {
+        obj: Obj,
+    },
     /// A block of so many words.
-    Malloc { n: i64 },
+    Malloc {
+        n: i64,
+    },
     /// The end of a block, by its first place; NULL asks for nothing.
-    Free { at: Word },
+    Free {
+        at: Word,
+    },
     /// Bytes for the task's output.
-    Print { text: Text },
+    Print {
+        text: Text,
+    },
     /// The task itself has failed.
-    Broke { fault: Fault },
+    Broke {
+        fault: Fault,
+    },
     /// The end of main, with its exit code.
-    Finish { code: i32 },
+    Finish {
+        code: i32,
+    },
     /// MPI_Init (MPI 3.1, section 8.7).
     Init,
     /// MPI_Finalize (MPI 3.1, section 8.7).
     Finalize,
     /// MPI_Abort (MPI 3.1, section 8.7).
-    Abort { comm: Word, code: i32 },
+    Abort {
+        comm: Word,
+        code: i32,
+    },
     /// The task's rank in a communicator (MPI 3.1, section 6.4.1).
-    Rank { comm: Word },
+    Rank {
+        comm: Word,
+    },
     /// The size of a communicator (MPI 3.1, section 6.4.1).
-    Size { comm: Word },
+    Size {
+        comm: Word,
+    },
     /// Posts a send to a rank (MPI 3.1, section 3.2.1); a synchronous one is complete when it is
     /// matched (section 3.4).
-    Send { at: Word, count: i32, kind: Datatype, peer: i32, tag: i32, comm: Word, sync: bool },
+    Send {
+        at: Word,
+        count: i32,
+        kind: Datatype,
+        peer: i32,
+        tag: i32,
+        comm: Word,
+        sync: bool,
+    },
     /// Posts a receive from a rank (MPI 3.1, section 3.2.4).
-    Recv { at: Word, count: i32, kind: Datatype, peer: i32, tag: i32, comm: Word },
+    Recv {
+        at: Word,
+        count: i32,
+        kind: Datatype,
+        peer: i32,
+        tag: i32,
+        comm: Word,
+    },
     /// Waits for a request (MPI 3.1, section 3.7.3).
-    Complete { req: Word },
+    Complete {
+        req: Word,
+    },
     /// Looks whether a request is complete (MPI 3.1, section 3.7.3).
-    Test { req: Word },
+    Test {
+        req: Word,
+    },
     /// Waits for one of several requests (MPI 3.1, section 3.7.5).
-    AnyOf { reqs: Words },
+    AnyOf {
+        reqs: Words,
+    },
     /// Waits for a message that fits (MPI 3.1, section 3.8.1).
-    Probe { peer: i32, tag: i32, comm: Word },
+    Probe {
+        peer: i32,
+        tag: i32,
+        comm: Word,
+    },
     /// Looks for a message that fits (MPI 3.1, section 3.8.1).
-    Iprobe { peer: i32, tag: i32, comm: Word },
+    Iprobe {
+        peer: i32,
+        tag: i32,
+        comm: Word,
+    },
     /// The task's part of a collective call (MPI 3.1, chapters 5 and 6).
-    Arrive { coll: Coll },
+    Arrive {
+        coll: Coll,
+    },
     /// Waits for the other members of the collective call, and takes its result.
-    Leave { comm: Word },
+    Leave {
+        comm: Word,
+    },
     /// Arrives at a `single`.
-    HlsEnter { construct: u32 },
+    HlsEnter {
+        construct: u32,
+    },
     /// Waits until the task that runs the `single` has left it.
-    HlsWait { construct: u32 },
+    HlsWait {
+        construct: u32,
+    },
     /// Leaves the block of a `single`.
-    HlsExit { construct: u32 },
+    HlsExit {
+        construct: u32,
+    },
     /// Arrives at a `barrier`.
-    HlsBar { construct: u32 },
+    HlsBar {
+        construct: u32,
+    },
     /// Waits until all tasks of the instance have arrived at the `barrier`.
-    HlsBarWait { construct: u32 },
+    HlsBarWait {
+        construct: u32,
+    },
 }
 
 impl Call {

@@ -1,14 +1,16 @@
 //! Files and sinks in memory, the list types, and the names of faults.
 
+use crate::answers::{Answer, Out};
 use crate::byte_sink::Sink;
-use crate::calls::{Answer, Call, Fault, Out};
+use crate::calls::Call;
 use crate::failures::{Failed, Memory};
+use crate::faults::Fault;
 use crate::file_store::{Files, ReadAnswer, WriteAnswer};
 use crate::journals::Entry;
 use crate::lists::{Cores, Entries, Text, Words};
 use crate::mem_files::MemFiles;
 use crate::mem_sink::MemSink;
-use crate::values::Word;
+use crate::values::{Obj, Word};
 use std::alloc::{AllocError, Global};
 use std::collections::BTreeMap;
 use std::test::*;
@@ -149,30 +151,72 @@ fn lists_hold_their_items(rt: HostRuntime) -> Result<(), Fail> {
 }
 
 #[test]
-fn calls_and_faults_have_their_names(rt: HostRuntime) {
-    for (fault, name) in [
+fn faults_have_their_names(rt: HostRuntime) {
+    let named = [
+        (Fault::Overflow, "Overflow"),
+        (Fault::Divide, "Divide"),
+        (Fault::Shift, "Shift"),
         (Fault::Uninit, "Uninit"),
         (Fault::NullAccess, "NullAccess"),
         (Fault::Bounds, "Bounds"),
         (Fault::Dangling, "Dangling"),
+        (Fault::PendingTouch, "PendingTouch"),
+        (Fault::PendingDrop, "PendingDrop"),
+        (Fault::LeakedRequest, "LeakedRequest"),
+        (Fault::CollMismatch, "CollMismatch"),
+        (Fault::Depth, "Depth"),
+        (Fault::Turns, "Turns"),
+        (Fault::Calls, "Calls"),
         (Fault::OutputFull, "OutputFull"),
-    ] {
-        assert_eq!(rt; fault.name(), name);
-    }
-    let text = Text::of(Vec::new(rt.alloc()));
-    for (call, number) in [
-        (Call::Load { at: Word::Null }, 1),
-        (
-            Call::Store {
-                at: Word::Null,
-                word: Word::Undef,
-            },
-            2,
-        ),
-        (Call::Print { text }, 7),
-        (Call::Finish { code: 0 }, 9),
-    ] {
-        assert_eq!(rt; call.number(), number);
+        (Fault::StackFull, "StackFull"),
+    ];
+    for (fault, name) in &named {
+        assert_eq!(rt; fault.name(), *name);
     }
     assert_eq!(rt; Memory::from(AllocError), Memory);
+}
+
+#[test]
+fn calls_have_their_numbers_and_names(rt: HostRuntime) {
+    let null = Word::Null;
+    let rows = [
+        (Call::Load { at: null }, 1, "load"),
+        (Call::New { len: 3 }, 3, "new"),
+        (Call::Drop { obj: Obj::Dyn(1) }, 4, "drop"),
+        (Call::Malloc { n: -1 }, 5, "malloc"),
+        (Call::Free { at: null }, 6, "free"),
+        (
+            Call::Broke {
+                fault: Fault::Turns,
+            },
+            8,
+            "broke",
+        ),
+        (Call::Finish { code: 0 }, 9, "finish"),
+        (Call::Init, 10, "init"),
+        (
+            Call::Rank {
+                comm: Word::Comm(1),
+            },
+            13,
+            "rank",
+        ),
+        (Call::Complete { req: Word::Req(1) }, 17, "complete"),
+        (
+            Call::Leave {
+                comm: Word::Comm(1),
+            },
+            23,
+            "leave",
+        ),
+        (Call::HlsEnter { construct: 0 }, 24, "enter"),
+        (Call::HlsWait { construct: 0 }, 25, "await"),
+        (Call::HlsExit { construct: 0 }, 26, "exit"),
+        (Call::HlsBar { construct: 0 }, 27, "bar"),
+        (Call::HlsBarWait { construct: 0 }, 28, "barwait"),
+    ];
+    for (call, number, name) in &rows {
+        assert_eq!(rt; call.number(), *number);
+        assert_eq!(rt; call.name(), *name);
+    }
 }

@@ -3,7 +3,7 @@ use Rattle.std.specs.Prelude.{ℕ, pos, ◌+◌, Bool, ◌||◌, if◌then◌els
 use Rattle.std.specs.List.{list_all}
 use Rattle.mpc_base.specs.declared.values.Word.TheVariants.{Int}
 use Rattle.mpc_base.specs.declared.calls.Call.{Call}
-use Rattle.mpc_base.specs.declared.calls.Call.TheVariants.{Load, Store, Print, Finish}
+use Rattle.mpc_base.specs.declared.calls.Call.TheVariants as call
 use Rattle.mpc_base.specs.declared.answers.Answer.{Answer}
 use Rattle.mpc_base.specs.declared.answers.Answer.TheVariants.{Gives}
 use Rattle.mpc_base.specs.declared.faults.Fault.{Fault}
@@ -20,10 +20,12 @@ use Rattle.run_model.specs.declared.records.Setup.{Setup}
 use Rattle.run_model.specs.declared.tasks.TaskState.{TaskState}
 use Rattle.run_model.specs.World.{World, owner_of}
 
--- What a call does: an answer, with the memory and the task behind it, or a fault.
+-- What a call does: an answer, with the memory and the task behind it, or a fault; or it is one that the programs which
+-- are run today do not make.
 pub data Act : Type 0 where
   Does : (answer : Answer) (memory : Memory) (task : TaskState) → Act
   Fails : (fault : Fault) → Act
+  Unbuilt : Act
 
 -- an access changes memory alone
 abbrev pub accessed : TaskState → Access → Act
@@ -43,10 +45,12 @@ print m state text =
 
 -- what a call of a task does
 abbrev pub act : ℕ → Memory → TaskState → Call → Act
-act task m state (Load at) = accessed state (load (owner_of task) m at)
-act task m state (Store at word) = accessed state (store (owner_of task) m at word)
-act task m state (Print text) = print m state text
-act task m state (Finish code) = Does (Gives (Int code)) m (record state { exit = Some code })
+act task m state (call.Load at) = accessed state (load (owner_of task) m at)
+act task m state (call.Store at word) = accessed state (store (owner_of task) m at word)
+act task m state (call.Print text) = print m state text
+act task m state (call.Finish code) = Does (Gives (Int code)) m (record state { exit = Some code })
+act task m state (call.Broke fault) = Fails fault
+act task m state other = Unbuilt
 
 -- What a step makes: nothing, or an entry of the journal and the world behind it.
 pub data Step : Type 0 where
@@ -73,6 +77,7 @@ acted w task call line (Does answer memory state) =
       answers = slice_set w.answers task (answers_of w task ++ answer ∷ []);
       last = w.last;
     })
+acted w task call line Unbuilt = Stays
 acted w task call line (Fails fault) =
     Makes (entry_of task call line (Broke fault)) (record w { last = Some (record { task = task; fault = fault; line = line }) })
 

@@ -1,4 +1,4 @@
-use Rattle.std.proofs.Common.{rules, ◌≡◌, ℤ, FitsSigned, to_z, of_z, ap, sym, ◌∙◌, refl}
+use Rattle.std.proofs.Common.{◌≡◌, ℤ, FitsSigned, to_z, of_z, ap, sym, ◌∙◌, refl}
 use Rattle.std.proofs.lemmas.Int.{int_wrap_fits, to_z-of_z}
 use Rattle.std.specs.Int.{w64}
 use Rattle.c_tree.specs.Arithmetic.{operated, computed, right_width}

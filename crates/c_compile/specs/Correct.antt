@@ -1,0 +1,21 @@
+-- The code of a program, and what makes code right for a program.
+use Rattle.std.specs.Prelude.{ℕ, List, slice_get}
+use Rattle.mpc_base.specs.declared.answers.Answer.{Answer}
+use Rattle.c_tree.specs.Programs.{Program}
+use Rattle.c_tree.specs.Next.{next_of}
+use Rattle.c_code.specs.declared.code.Code.{Code}
+use Rattle.c_code.specs.Demands.{Demands}
+use Rattle.c_compile.specs.Compiled.{functions_code, entries_from, params_of}
+
+-- the code of a program
+abbrev pub compiled : Program → Code
+compiled program = record {
+  instrs = functions_code program.functions;
+  entries = entries_from 0 program.functions;
+  main = program.main;
+  arguments = params_of (slice_get program.functions program.main);
+}
+
+-- Behind every list of answers, the code demands what the program asks.
+abbrev pub Behaves : Code → Program → Type 0
+Behaves code program = (answers : List Answer) → Demands code answers (next_of program answers)

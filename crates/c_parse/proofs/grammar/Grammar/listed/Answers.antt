@@ -1,0 +1,19 @@
+use Rattle.std.proofs.Common.{◌∙◌, sym, ap, not}
+use Rattle.c_tree.specs.SyntaxOf.{expr_of}
+use Rattle.c_parse.specs.declared.grammar.Part.TheVariants as part
+use Rattle.c_parse.specs.Reading.{no_comma, one_more}
+use Rattle.c_parse.specs.Expressions.{nest}
+use Rattle.c_parse.proofs.Turns.{turn_steps, turn_stops, turns_over, turn_fails}
+use Rattle.c_parse.proofs.grammar.Grammar.listed.Goals as goal
+
+pub loop-turn-preserved : goal.loop-turn-preserved
+loop-turn-preserved g c =
+    turn_steps no_comma (one_more ((nest c.args.self.now.depth).below part.Assign)) _ _ _ _ _ _ _ c.loop-turn.invariant c.loop-turn-test.true (ap not (sym c.sees.ensures ∙ c.if-not-sees.false)) c.in_ok-found.ensures
+
+pub returns-then-not-sees : goal.returns-then-not-sees
+returns-then-not-sees g c =
+    turn_stops no_comma (one_more ((nest c.args.self.now.depth).below part.Assign)) _ _ _ _ c.loop-turn.invariant (ap not (sym c.sees.ensures ∙ c.if-not-sees.true))
+
+pub returns : goal.returns
+returns g c =
+    turns_over no_comma (one_more ((nest c.args.self.now.depth).below part.Assign)) _ _ _ _ _ c.loop-turn.invariant c.loop-turn-test.false
