@@ -160,10 +160,7 @@ fn param_flags(alloc: Global, names: &Names, f: &Function) -> Result<Params, Mem
     ensures { IfOk result (λ flags. flags ≡ take (length (function_of f.now).params) names.now.taken) }
 {
     let mut flags = Vec::new(alloc);
-    let count = f.params.len();
-    if count > names.taken.len() {
-        return Err(Memory);
-    }
+    let count = f.params.len().min(names.taken.len());
     flags.extend_from_slice(&names.taken[..count])?;
     Ok(Params::of(flags))
 }
