@@ -1,9 +1,11 @@
 //! Statements that hold no others: what a pass finds of them.
-ghost use Rattle.std.specs.Prelude.{◌≡◌, IfOk, OnOk, Ok, [], ◌∷◌, Bool, map, length};
+ghost use Rattle.std.specs.Prelude.{◌≡◌, IfOk, OnOk, Ok, [], None, map, length, option_map};
 ghost use Rattle.c_tree.specs.ProgramOf as program;
 ghost use Rattle.c_tree.specs.Programs as p;
 ghost use Rattle.c_tree.specs.Syntax as x;
-ghost use Rattle.c_tree.specs.SyntaxOf.{expr_of, maybe_of, declaration_of, head_of};
+ghost use Rattle.c_tree.specs.SyntaxOf.{expr_of, maybe_of, declaration_of, head_of, stmt_of};
+ghost use Rattle.c_types.specs.Declarations.{declaration_outline};
+ghost use Rattle.c_types.specs.Expressions.{outline};
 ghost use Rattle.c_types.specs.Nodes as nodes;
 ghost use Rattle.c_types.specs.Nodes.{first_of};
 ghost use Rattle.c_types.specs.Outcomes.{fault};
@@ -22,7 +24,7 @@ use crate::shapes::{Shape, StatementShape};
 use crate::sharing::levels_of;
 use c_tree::program::{Construct, HlsKind, Stmt};
 use c_tree::syntax::{Declaration, Expr, ForHead, Place};
-use c_tree::{Identifiers, program};
+use c_tree::{Identifiers, program, syntax};
 use mpc_base::{Level, Memory};
 use std::alloc::Global;
 
@@ -63,7 +65,7 @@ pub fn pass_eval(
     at: Place,
     value: &Expr,
 ) -> Result<Result<Stmt, TypeRefusal>, Memory>
-    ensures first { (in_loop : Bool) → IfOk result (λ r. fault r ≡ first_of (statements.stmt_outline names.now in_loop (x.Eval at (expr_of value.now)))) }
+    ensures first { IfOk result (λ r. fault r ≡ first_of (outline names.now None (expr_of value.now))) }
     ensures made { IfOk result (λ r. IfOk r (λ made. program.stmt_of made ≡ statements.stmt_made names.now (x.Eval at (expr_of value.now)))) }
 {
     let Looked { made, .. } = look(alloc, names, None, value)?;
@@ -80,7 +82,7 @@ pub fn pass_declare(
     declaration: &Declaration,
 ) -> Result<Result<Stmt, TypeRefusal>, Memory>
     ensures names { OnOk result (names.new ≡ statements.after names.old (x.Declare (declaration_of declaration.now))) }
-    ensures first { (in_loop : Bool) → IfOk result (λ r. fault r ≡ first_of (statements.stmt_outline names.old in_loop (x.Declare (declaration_of declaration.now)))) }
+    ensures first { IfOk result (λ r. fault r ≡ first_of (declaration_outline names.old (declaration_of declaration.now))) }
     ensures made { IfOk result (λ r. IfOk r (λ made. program.stmt_of made ≡ statements.stmt_made names.old (x.Declare (declaration_of declaration.now)))) }
 {
     match pass_declaration(alloc, names, declaration)? {
@@ -95,7 +97,7 @@ pub fn pass_return(
     at: Place,
     value: &Option<Expr>,
 ) -> Result<Result<Stmt, TypeRefusal>, Memory>
-    ensures first { (in_loop : Bool) → IfOk result (λ r. fault r ≡ first_of (statements.stmt_outline names.now in_loop (x.Return at (maybe_of value.now)))) }
+    ensures first { IfOk result (λ r. fault r ≡ first_of (nodes.At at.line (shape.Statement (statement.Returned names.now.returns (statements.maybe_kind names.now (maybe_of value.now)))) (statements.maybe_outline names.now (maybe_of value.now)))) }
     ensures made { IfOk result (λ r. IfOk r (λ made. program.stmt_of made ≡ statements.stmt_made names.now (x.Return at (maybe_of value.now)))) }
 {
     let due = names.returns;
@@ -157,11 +159,21 @@ pub fn pass_barrier(
     all: &Identifiers,
 ) -> Result<Result<Stmt, TypeRefusal>, Memory>
     ensures names { OnOk result (names.new ≡ statements.after names.old (x.Barrier at all.now)) }
-    ensures first { (in_loop : Bool) → IfOk result (λ r. fault r ≡ first_of (statements.stmt_outline names.old in_loop (x.Barrier at all.now))) }
+    ensures first { IfOk result (λ r. fault r ≡ first_of (nodes.At at.line (statements.barrier_shape names.old all.now) nodes.Empty)) }
     ensures made { IfOk result (λ r. IfOk r (λ made. program.stmt_of made ≡ statements.stmt_made names.old (x.Barrier at all.now))) }
 {
     let found = levels_of(true, names, all.as_slice());
     let number = next_construct(names, HlsKind::Barrier, found)?;
     let shape = Shape::Statement(StatementShape::Barrier(found.is_some(), number as usize));
     Ok(blamed(shape, at.line, Ok(Stmt::Barrier(at.line, number))))
+}
+
+/// The declaration that a statement is.
+pub fn declaration_in(s: &syntax::Stmt) -> Option<&Declaration>
+    ensures { option_map (λ d. declaration_of d.now) result ≡ statements.declared_in (stmt_of s.now) }
+{
+    match s {
+        syntax::Stmt::Declare(declaration) => Some(declaration),
+        _ => None,
+    }
 }

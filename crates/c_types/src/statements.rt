@@ -13,15 +13,15 @@ use crate::branches::{
 };
 use crate::declarations::pass_declaration;
 use crate::escapes::escapes;
-use crate::expressions::{Looked, look};
+use crate::expressions::look;
 use crate::names::Names;
 use crate::outcomes::appended;
 use crate::refusals::TypeRefusal;
 use crate::shapes::{Shape, StatementShape};
 use crate::sharing::{is_closed, levels_of, single_kind};
 use crate::simple_statements::{
-    jumped, look_maybe, next_construct, pass_barrier, pass_declare, pass_eval, pass_head,
-    pass_return,
+    declaration_in, jumped, look_maybe, next_construct, pass_barrier, pass_declare, pass_eval,
+    pass_head, pass_return,
 };
 use c_tree::program::Stmt;
 use c_tree::syntax::{Expr, ForHead, Place};
@@ -57,16 +57,16 @@ fn pass_if(
     names: &mut Names,
     in_loop: bool,
     at: Place,
-    test: &Expr,
     body: &syntax::Stmt,
+    test: &Expr,
 ) -> Result<Result<Stmt, TypeRefusal>, Memory>
     ensures names { OnOk result (names.new ≡ statements.after names.old (x.If at (expr_of test.now) (stmt_of body.now))) }
     ensures first { IfOk result (λ r. fault r ≡ first_of (statements.stmt_outline names.old in_loop (x.If at (expr_of test.now) (stmt_of body.now)))) }
     ensures made { IfOk result (λ r. IfOk r (λ made. program.stmt_of made ≡ statements.stmt_made names.old (x.If at (expr_of test.now) (stmt_of body.now)))) }
 {
-    let Looked { kind, made: test } = look(alloc, names, None, test)?;
+    let looked = look(alloc, names, None, test)?;
     let body = pass(alloc, names, in_loop, body)?;
-    if_made(alloc, at, kind, test, body)
+    if_made(alloc, at, looked.kind, looked.made, body)
 }
 
 #[cycle(pass)]
@@ -75,18 +75,18 @@ fn pass_if_else(
     names: &mut Names,
     in_loop: bool,
     at: Place,
-    test: &Expr,
     body: &syntax::Stmt,
     other: &syntax::Stmt,
+    test: &Expr,
 ) -> Result<Result<Stmt, TypeRefusal>, Memory>
     ensures names { OnOk result (names.new ≡ statements.after names.old (x.IfElse at (expr_of test.now) (stmt_of body.now) (stmt_of other.now))) }
     ensures first { IfOk result (λ r. fault r ≡ first_of (statements.stmt_outline names.old in_loop (x.IfElse at (expr_of test.now) (stmt_of body.now) (stmt_of other.now)))) }
     ensures made { IfOk result (λ r. IfOk r (λ made. program.stmt_of made ≡ statements.stmt_made names.old (x.IfElse at (expr_of test.now) (stmt_of body.now) (stmt_of other.now)))) }
 {
-    let Looked { kind, made: test } = look(alloc, names, None, test)?;
+    let looked = look(alloc, names, None, test)?;
     let body = pass(alloc, names, in_loop, body)?;
     let other = pass(alloc, names, in_loop, other)?;
-    if_else_made(alloc, at, kind, test, body, other)
+    if_else_made(alloc, at, looked.kind, looked.made, body, other)
 }
 
 #[cycle(pass)]
@@ -95,16 +95,16 @@ fn pass_while(
     names: &mut Names,
     in_loop: bool,
     at: Place,
-    test: &Expr,
     body: &syntax::Stmt,
+    test: &Expr,
 ) -> Result<Result<Stmt, TypeRefusal>, Memory>
     ensures names { OnOk result (names.new ≡ statements.after names.old (x.While at (expr_of test.now) (stmt_of body.now))) }
     ensures first { IfOk result (λ r. fault r ≡ first_of (statements.stmt_outline names.old in_loop (x.While at (expr_of test.now) (stmt_of body.now)))) }
     ensures made { IfOk result (λ r. IfOk r (λ made. program.stmt_of made ≡ statements.stmt_made names.old (x.While at (expr_of test.now) (stmt_of body.now)))) }
 {
-    let Looked { kind, made: test } = look(alloc, names, None, test)?;
+    let looked = look(alloc, names, None, test)?;
     let body = pass(alloc, names, true, body)?;
-    while_made(alloc, at, kind, test, body)
+    while_made(alloc, at, looked.kind, looked.made, body)
 }
 
 #[cycle(pass)]
@@ -121,8 +121,8 @@ fn pass_do(
     ensures made { IfOk result (λ r. IfOk r (λ made. program.stmt_of made ≡ statements.stmt_made names.old (x.DoWhile at (stmt_of body.now) (expr_of test.now)))) }
 {
     let body = pass(alloc, names, true, body)?;
-    let Looked { kind, made: test } = look(alloc, names, None, test)?;
-    do_made(alloc, at, kind, body, test)
+    let looked = look(alloc, names, None, test)?;
+    do_made(alloc, at, looked.kind, body, looked.made)
 }
 
 #[cycle(pass)]
@@ -191,11 +191,11 @@ fn pass(
             let made = pass_block(alloc, names, in_loop, *at, items, *end_line)?;
             Ok(made)
         }
-        syntax::Stmt::If(at, test, body) => pass_if(alloc, names, in_loop, *at, test, body),
+        syntax::Stmt::If(at, test, body) => pass_if(alloc, names, in_loop, *at, body, test),
         syntax::Stmt::IfElse(at, test, body, other) => {
-            pass_if_else(alloc, names, in_loop, *at, test, body, other)
+            pass_if_else(alloc, names, in_loop, *at, body, other, test)
         }
-        syntax::Stmt::While(at, test, body) => pass_while(alloc, names, in_loop, *at, test, body),
+        syntax::Stmt::While(at, test, body) => pass_while(alloc, names, in_loop, *at, body, test),
         syntax::Stmt::DoWhile(at, body, test) => pass_do(alloc, names, in_loop, *at, body, test),
         syntax::Stmt::For(at, head, test, step, body) => {
             pass_for(alloc, names, in_loop, *at, head, test, step, body)
@@ -236,12 +236,17 @@ fn pass_item(
     ensures made { IfOk result (λ r. IfOk r (λ items. map program.stmt_of items.items
         ≡ statements.items_of names.old (stmt_of s.now) (statements.stmt_made names.old (stmt_of s.now)))) }
 {
-    if let syntax::Stmt::Declare(declaration) = s {
-        return pass_declaration(alloc, names, declaration);
+    match declaration_in(s) {
+        Some(declaration) => {
+            let items = pass_declaration(alloc, names, declaration)?;
+            Ok(items)
+        }
+        None => {
+            let made = pass(alloc, names, in_loop, s)?;
+            let items = one_item(alloc, made)?;
+            Ok(items)
+        }
     }
-    let made = pass(alloc, names, in_loop, s)?;
-    let items = one_item(alloc, made)?;
-    Ok(items)
 }
 
 /// The items of a block, in its scope.
