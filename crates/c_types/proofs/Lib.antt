@@ -7,4 +7,9 @@ pub mod Order
 pub mod Laws
 pub mod ScopeMaps
 pub mod Walks
+pub mod Two
+pub mod Applied
+pub mod LookSteps
+pub mod CallForms
 pub mod Passes
+pub mod Checked

@@ -172,6 +172,11 @@ may_start scopes (More first (More second End)) =
     (is_name_of stands_for_null scopes first && is_name_of stands_for_null scopes second) || (is_address_of stands_for_count scopes first && is_address_of stands_for_arguments scopes second)
 may_start scopes arguments = false
 
+-- what the rules read of an assignment, whose left side is this; a computing one has a sign
+abbrev pub assigned_shape : Option Binary → Left → Option Kind → Option Kind → Shape
+assigned_shape None side a b = shape.Operator (operator.Assigned side b)
+assigned_shape (Some sign) side a b = shape.Operator (operator.Computed sign side a b)
+
 -- what the rules read of a call of a function of the program
 abbrev pub own_shape : Option Sig → List (Option Kind) → Shape
 own_shape None kinds = shape.Call call.Nothing

@@ -10,16 +10,11 @@ use Rattle.c_types.specs.declared.shapes.OperandShape.TheVariants as operand
 use Rattle.c_types.specs.declared.shapes.OperatorShape.TheVariants as operator
 use Rattle.c_types.specs.declared.shapes.Shape.{Shape}
 use Rattle.c_types.specs.declared.shapes.Shape.TheVariants.{Operand, Operator}
-use Rattle.c_types.specs.Calls.{meaning, side_of, wanted, cast_want, is_malloc, cast_shape, unary_shape, is_field, special, or_typed, call_shape, Looked, Every, BehindFirst, Expressions, Neither, looked_at}
+use Rattle.c_types.specs.Calls.{meaning, side_of, wanted, cast_want, is_malloc, cast_shape, unary_shape, is_field, special, or_typed, assigned_shape, call_shape, Looked, Every, BehindFirst, Expressions, Neither, looked_at}
 use Rattle.c_types.specs.Constants.{binary_shape}
 use Rattle.c_types.specs.Env.{Env}
 use Rattle.c_types.specs.Nodes.{Outline, Empty, At, Then}
 use Rattle.c_types.specs.Rules.{kind}
-
--- what the rules read of an assignment; a computing one has a sign
-abbrev pub assigned_shape : Env → Option Binary → Expr → Option Kind → Option Kind → Shape
-assigned_shape env None left a b = Operator (operator.Assigned (side_of env.scopes left a) b)
-assigned_shape env (Some sign) left a b = Operator (operator.Computed sign (side_of env.scopes left a) a b)
 
 -- the pointer that a malloc on the right of an assignment is for; a computing one is for none
 abbrev pub right_want : Env → Option Binary → Expr → Option Kind → Option Base
@@ -43,7 +38,7 @@ abbrev mutual
   shape_of env want (Binary' at sign left right) = binary_shape sign (kind (shape_of env None left)) (kind (shape_of env None right))
   shape_of env want (Choice at test left right) = Operator (operator.Chosen (kind (shape_of env None test)) (kind (shape_of env None left)) (kind (shape_of env None right)))
   shape_of env want (Assign at sign left right) =
-      assigned_shape env sign left (kind (shape_of env None left)) (kind (shape_of env (right_want env sign left (kind (shape_of env None left))) right))
+      assigned_shape sign (side_of env.scopes left (kind (shape_of env None left))) (kind (shape_of env None left)) (kind (shape_of env (right_want env sign left (kind (shape_of env None left))) right))
 
   -- the types of a call's arguments
   pub kinds : Env → Exprs → List (Option Kind)

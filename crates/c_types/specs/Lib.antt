@@ -19,3 +19,4 @@ pub mod Addresses
 pub mod FrameCode
 pub mod Units
 pub mod Typing
+pub mod Answers

@@ -253,6 +253,11 @@ head_made env line Bare = []
 head_made env line (Declared declaration) = declaration_made env declaration
 head_made env line (Evaluated value) = p.Eval line (typed env None value) ∷ []
 
+-- the declaration that a statement is
+abbrev pub declared_in : Stmt → Option x.Declaration
+declared_in (Declare declaration) = Some declaration
+declared_in other = None
+
 -- what a statement is among the items of a block: a declaration leaves items, and any other statement one
 abbrev pub items_of : Env → Stmt → p.Stmt → List p.Stmt
 items_of env (Declare declaration) made = declaration_made env declaration

@@ -310,7 +310,7 @@ abbrev mutual
   passed env (Own []) (More first rest) = p.More (typed env None first) (passed env (Own []) rest)
   passed env (Own (param ∷ params)) (More first rest) = p.More (converted (Some param) (kind_of env None first) (typed env None first)) (passed env (Own params) rest)
   passed env Format (More first rest) = passed env (Own []) rest
-  passed env (Row []) (More first rest) = p.End
+  passed env (Row []) (More first rest) = unless_special (special env.scopes first) (typed env None first) (passed env (Row []) rest)
   passed env (Row (row ∷ rows)) (More first rest) =
       unless_special (special env.scopes first) (converted (row_kind row) (kind_of env None first) (typed env None first)) (passed env (Row rows) rest)
   passed env Nothing (More first rest) = p.End

@@ -211,7 +211,8 @@ function_made inner f body = record {
   slots = (after_all inner body.items).slots;
   body = stmts_made inner body.items;
   ending = ending_of f (answer_kind f.returns);
-  end_line = body.end_line }
+  end_line = body.end_line;
+}
 
 -- a prototype leaves none
 abbrev pub body_made : Env → Function → Option Body → List p.Function

@@ -77,7 +77,12 @@ fn with_level(names: &mut Names, level: Level, all: &[Identifier]) -> bool
 }
 
 /// A directive that gives variables a level.
-pub fn pass_scope(names: &mut Names, at: Place, level: Level, all: &[Identifier]) -> Result<(), TypeRefusal>
+pub fn pass_scope(
+    names: &mut Names,
+    at: Place,
+    level: Level,
+    all: &[Identifier],
+) -> Result<(), TypeRefusal>
     ensures names { names.new ≡ units.with_level level names.old all.now }
     ensures first { fault result ≡ first_of (nodes.At at.line (units.scope_shape names.old level all.now) nodes.Empty) }
 {

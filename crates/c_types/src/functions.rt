@@ -21,7 +21,7 @@ use crate::signatures::{
     answer_kind, conflicts, has_body, is_called_main, is_main_with_arguments, is_written_array,
     signature, written_kind,
 };
-use crate::statements::{PassedItems, pass_items};
+use crate::statements::pass_items;
 use c_tree::program;
 use c_tree::program::{Ending, Params};
 use c_tree::syntax::{Body, Function, Param};
@@ -78,7 +78,11 @@ fn param_decl(is_main: bool, slot: u32, kind: Kind) -> Decl
 }
 
 // A parameter takes the next slot.
-fn pass_param(names: &mut Names, is_main: bool, param: &Param) -> Result<Result<(), TypeRefusal>, Memory>
+fn pass_param(
+    names: &mut Names,
+    is_main: bool,
+    param: &Param,
+) -> Result<Result<(), TypeRefusal>, Memory>
     ensures names { OnOk result (names.new ≡ units.with_param is_main names.old param.now) }
     ensures first { IfOk result (λ r. fault r ≡ first_of (nodes.At param.now.at.line (units.param_shape is_main names.old param.now) nodes.Empty)) }
 {
@@ -91,12 +95,19 @@ fn pass_param(names: &mut Names, is_main: bool, param: &Param) -> Result<Result<
         is_main,
     }));
     let slot = names.slots;
-    names.put(param.name.clone()?.into_vec(), param_decl(is_main, slot, kind))?;
+    names.put(
+        param.name.clone()?.into_vec(),
+        param_decl(is_main, slot, kind),
+    )?;
     names.slots = slot.checked_add(1).ok_or(Memory)?;
     Ok(blamed(shape, param.at.line, Ok(())))
 }
 
-fn pass_params(names: &mut Names, is_main: bool, all: &[Param]) -> Result<Result<(), TypeRefusal>, Memory>
+fn pass_params(
+    names: &mut Names,
+    is_main: bool,
+    all: &[Param],
+) -> Result<Result<(), TypeRefusal>, Memory>
     ensures names { OnOk result (names.new ≡ units.with_params is_main names.old all.now) }
     ensures first { IfOk result (λ r. fault r ≡ first_of (units.params_outline is_main names.old all.now)) }
 {
@@ -149,16 +160,19 @@ fn param_flags(alloc: Global, names: &Names, f: &Function) -> Result<Params, Mem
     ensures { IfOk result (λ flags. flags ≡ take (length (function_of f.now).params) names.now.taken) }
 {
     let mut flags = Vec::new(alloc);
-    let count = f.params.len();
-    if count > names.taken.len() {
-        return Err(Memory);
-    }
+    let count = f.params.len().min(names.taken.len());
     flags.extend_from_slice(&names.taken[..count])?;
     Ok(Params::of(flags))
 }
 
 // A definition, made of its items.
-fn function_made(params: Params, slots: u32, items: Vec<program::Stmt>, ending: Ending, end_line: u32) -> program::Function
+fn function_made(
+    params: Params,
+    slots: u32,
+    items: Vec<program::Stmt>,
+    ending: Ending,
+    end_line: u32,
+) -> program::Function
     ensures { program.function_of result ≡ record { params = params; slots = slots; body = statements.onto (map program.stmt_of items.items) p.Done; ending = ending; end_line = end_line } }
 {
     program::Function {
@@ -171,21 +185,29 @@ fn function_made(params: Params, slots: u32, items: Vec<program::Stmt>, ending: 
 }
 
 // The body of a function, behind its parameters.
-fn pass_body(alloc: Global, names: &mut Names, f: &Function, body: &Body) -> Result<Result<program::Function, TypeRefusal>, Memory>
+fn pass_body(
+    alloc: Global,
+    names: &mut Names,
+    f: &Function,
+    body: &Body,
+) -> Result<Result<program::Function, TypeRefusal>, Memory>
     ensures names { OnOk result (names.new ≡ statements.after_all names.old (body_of body.now).items) }
     ensures first { IfOk result (λ r. fault r ≡ first_of (units.body_outline names.old (Some (body_of body.now)))) }
     ensures made { IfOk result (λ r. IfOk r (λ made. program.function_of made ≡ units.function_made names.old (function_of f.now) (body_of body.now))) }
 {
     let params = param_flags(alloc, names, f)?;
-    let PassedItems { made, .. } = pass_items(alloc, names, false, &body.items)?;
-    match made {
+    match pass_items(alloc, names, false, &body.items)? {
         Ok(items) => Ok(Ok(function_made(params, names.slots, items, ending_of(f), body.end_line))),
         Err(refusal) => Ok(Err(refusal)),
     }
 }
 
 // A prototype leaves nothing, and a definition a function.
-fn pass_maybe_body(alloc: Global, names: &mut Names, f: &Function) -> Result<Result<Vec<program::Function>, TypeRefusal>, Memory>
+fn pass_maybe_body(
+    alloc: Global,
+    names: &mut Names,
+    f: &Function,
+) -> Result<Result<Vec<program::Function>, TypeRefusal>, Memory>
     ensures names { OnOk result (names.new ≡ units.after_body names.old (function_of f.now).body) }
     ensures first { IfOk result (λ r. fault r ≡ first_of (units.body_outline names.old (function_of f.now).body)) }
     ensures made { IfOk result (λ r. IfOk r (λ made. map program.function_of made.items ≡ units.body_made names.old (function_of f.now) (function_of f.now).body)) }
@@ -212,7 +234,11 @@ fn function_shape(names: &Names, f: &Function) -> Shape
 }
 
 /// A function: the definition, where it is one.
-pub fn pass_function(alloc: Global, names: &mut Names, f: &Function) -> Result<Result<Vec<program::Function>, TypeRefusal>, Memory>
+pub fn pass_function(
+    alloc: Global,
+    names: &mut Names,
+    f: &Function,
+) -> Result<Result<Vec<program::Function>, TypeRefusal>, Memory>
     ensures names { OnOk result (names.new ≡ units.after_function names.old (function_of f.now)) }
     ensures first { IfOk result (λ r. fault r ≡ first_of (units.function_outline names.old (function_of f.now))) }
     ensures made { IfOk result (λ r. IfOk r (λ made. map program.function_of made.items ≡ units.body_made (units.behind_params names.old (function_of f.now)) (function_of f.now) (function_of f.now).body)) }

@@ -1,5 +1,5 @@
 //! What is known at a place of a source: the names in scope, and what was declared so far.
-ghost use Rattle.std.specs.Prelude.{◌≡◌, OnOk};
+ghost use Rattle.std.specs.Prelude.{◌≡◌, ◌++◌, IfOk, OnOk};
 ghost use Rattle.c_types.specs.Env.{find, put, in_top, enter_scope, leave_scope};
 
 use crate::kinds::{Decl, Kind, Sig};
@@ -85,5 +85,20 @@ impl Names {
             ≡ record self.old { scopes = put name.items decl self.old.scopes }) }
     {
         self.scopes.put(name, decl)
+    }
+
+    /// The variables, file-scope ones first, and the statements that share them.
+    pub fn into_parts(self) -> Result<(Vec<StaticVar>, Vec<Construct>), Memory>
+        ensures variables { IfOk result (λ parts. parts.0.items ≡ self.globals ++ self.statics) }
+        ensures constructs { IfOk result (λ parts. parts.1.items ≡ self.constructs) }
+    {
+        let Names {
+            mut globals,
+            mut statics,
+            constructs,
+            ..
+        } = self;
+        globals.append(&mut statics)?;
+        Ok((globals, constructs))
     }
 }

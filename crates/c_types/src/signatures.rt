@@ -1,5 +1,5 @@
 //! The types of functions, and which function is main.
-ghost use Rattle.std.specs.Prelude.{◌≡◌, IfOk, map, is_some, option_map};
+ghost use Rattle.std.specs.Prelude.{◌≡◌, IfOk, map, is_some, slice_get};
 ghost use Rattle.c_tree.specs.SyntaxOf.{function_of, item_of};
 ghost use Rattle.c_types.specs.Units as units;
 
@@ -160,11 +160,11 @@ fn have_kinds(kinds: &[Kind], params: &[Param]) -> bool
     true
 }
 
-// The function is declared with these types before, and this is not its second definition.
-fn agrees_with(sig: Option<&Sig>, f: &Function) -> bool
-    ensures { result ≡ units.agrees_with (option_map (λ s. s.now) sig) (function_of f.now) }
+// The function at the place is declared with the same types, and this is not its second definition.
+fn agrees_with(names: &Names, place: usize, f: &Function) -> bool
+    ensures { result ≡ units.agrees_with (slice_get names.now.functions place) (function_of f.now) }
 {
-    match sig {
+    match names.functions.get(place) {
         Some(sig) => {
             same_kind(sig.returns, answer_kind(f.returns))
                 && have_kinds(sig.params.as_slice(), &f.params)
@@ -180,7 +180,7 @@ pub fn conflicts(names: &Names, declared: Option<Decl>, f: &Function) -> bool
 {
     match declared {
         None => false,
-        Some(Decl::Function(place)) => !agrees_with(names.functions.get(place), f),
+        Some(Decl::Function(place)) => !agrees_with(names, place, f),
         Some(_) => true,
     }
 }

@@ -100,7 +100,11 @@ fn nothing(alloc: Global, found: Result<(), TypeRefusal>) -> Result<Vec<Function
 }
 
 // An item: the function that it defines, where it defines one.
-fn pass_item(alloc: Global, names: &mut Names, item: &Item) -> Result<Result<Vec<Function>, TypeRefusal>, Memory>
+fn pass_item(
+    alloc: Global,
+    names: &mut Names,
+    item: &Item,
+) -> Result<Result<Vec<Function>, TypeRefusal>, Memory>
     ensures names { OnOk result (names.new ≡ units.after_item names.old (item_of item.now)) }
     ensures first { IfOk result (λ r. fault r ≡ first_of (units.item_outline names.old (item_of item.now))) }
     ensures made { IfOk result (λ r. IfOk r (λ made. map program.function_of made.items ≡ units.item_made names.old (item_of item.now))) }
@@ -118,7 +122,11 @@ fn pass_item(alloc: Global, names: &mut Names, item: &Item) -> Result<Result<Vec
     }
 }
 
-fn pass_all(alloc: Global, names: &mut Names, items: &[Item]) -> Result<Result<Vec<Function>, TypeRefusal>, Memory>
+fn pass_all(
+    alloc: Global,
+    names: &mut Names,
+    items: &[Item],
+) -> Result<Result<Vec<Function>, TypeRefusal>, Memory>
     ensures names { OnOk result (names.new ≡ units.after_items names.old (map item_of items.now)) }
     ensures first { IfOk result (λ r. fault r ≡ first_of (units.items_outline names.old (map item_of items.now))) }
     ensures made { IfOk result (λ r. IfOk r (λ made. map program.function_of made.items ≡ units.functions_made names.old (map item_of items.now))) }

@@ -10,6 +10,5 @@ use Rattle.c_types.proofs.statements.+pass.Given as goal
 abbrev pub invariant-pass_items-loop-s : goal.invariant-pass_items-loop-s
 invariant-pass_items-loop-s l =
     (statements.after_all l.names (stmts_of (drop l.s-index l.all)) ≡ statements.after_all l.initial.names (stmts_of l.all))
-    × (statements.escapes_both l.escapes (statements.escapes_all (stmts_of (drop l.s-index l.all))) ≡ statements.escapes_all (stmts_of l.all))
     × (first_some (fault l.made) (first_of (statements.stmts_outline l.names l.in_loop (stmts_of (drop l.s-index l.all)))) ≡ first_of (statements.stmts_outline l.initial.names l.in_loop (stmts_of l.all)))
     × IfOk l.made (λ v. statements.onto (map stmt_of v.items) (statements.stmts_made l.names (stmts_of (drop l.s-index l.all))) ≡ statements.stmts_made l.initial.names (stmts_of l.all))
