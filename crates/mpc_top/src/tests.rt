@@ -1,4 +1,6 @@
 //! Commands, sources, files and sinks, with what they are answered, worked out by hand.
+mod typing;
+
 use crate::{Top, mpc_serial};
 use mpc_base::{Answer, Entry, MemFiles, MemSink, Memory, Out, Word};
 use std::alloc::Global;

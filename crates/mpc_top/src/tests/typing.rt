@@ -1,6 +1,7 @@
-//! How a source is answered.
+//! Sources against the rules of typing, and what typed programs have.
 mod bounds;
 mod rules;
+mod rules_of_functions;
 mod shapes;
 
 use c_lex::lex;
