@@ -1,4 +1,4 @@
-use Rattle.std.proofs.Common.{IfOk, ◌≡◌, None, ap, ◌∙◌, map}
+use Rattle.std.proofs.Common.{IfOk, ◌≡◌, None, false, ap, ◌∙◌, map}
 use Rattle.c_tree.specs.ProgramOf.{expr_of, maybe_of, stmt_of}
 use Rattle.c_tree.specs.SyntaxOf as syntax
 use Rattle.c_types.specs.Statements.{after_head, head_made, levels_of, maybe_typed, stmt_made}
@@ -51,17 +51,18 @@ pass_for-returns-clause-made t c =
 
 pub pass_single-returns-clause-made : goal.pass_single-returns-clause-made
 pass_single-returns-clause-made t c =
-    single_done _ _ _ _ _ _ _ _ _ _ _ c.single_kind.ensures (c.levels_of-found.ensures ∙ ap (levels_of _ _) c.as_slice.ensures) c.in_ok-number.ensures.names c.in_ok-number.ensures.number c.in_ok-made.ensures.made
+    single_done c.args.at.line c.args.names.now _ c.args.all.now c.args.nowait (syntax.stmt_of c.args.body.now) _ _ _ _ _
+    c.single_kind.ensures (c.levels_of-found.ensures ∙ ap (levels_of false c.args.names.now) c.as_slice.ensures) c.in_ok-number.ensures.names c.in_ok-number.ensures.number c.in_ok-made.ensures.made
     c.single_made.ensures.made
 
 pub pass_item-returns-in_ok-items-in-Some-clause-names : goal.pass_item-returns-in_ok-items-in-Some-clause-names
-pass_item-returns-in_ok-items-in-Some-clause-names t c = declared_names _ _ _ c.in-Some.is c.declaration_in.ensures _ _ c.in_ok-items-in-Some.ensures.names
+pass_item-returns-in_ok-items-in-Some-clause-names t c = declared_names _ _ c.args.s.now c.in-Some.is c.declaration_in.ensures c.args.names.now _ c.in_ok-items-in-Some.ensures.names
 
 pub pass_item-returns-in_ok-items-in-Some-clause-first : goal.pass_item-returns-in_ok-items-in-Some-clause-first
-pass_item-returns-in_ok-items-in-Some-clause-first t c = declared_first _ _ _ c.in-Some.is c.declaration_in.ensures _ _ _ c.in_ok-items-in-Some.ensures.first
+pass_item-returns-in_ok-items-in-Some-clause-first t c = declared_first _ _ c.args.s.now c.in-Some.is c.declaration_in.ensures c.args.names.now c.args.in_loop _ c.in_ok-items-in-Some.ensures.first
 
 pub pass_item-returns-in_ok-items-in-Some-clause-made : goal.pass_item-returns-in_ok-items-in-Some-clause-made
-pass_item-returns-in_ok-items-in-Some-clause-made t c = declared_made _ _ _ c.in-Some.is c.declaration_in.ensures _ _ c.in_ok-items-in-Some.ensures.made
+pass_item-returns-in_ok-items-in-Some-clause-made t c = declared_made _ _ c.args.s.now c.in-Some.is c.declaration_in.ensures c.args.names.now _ c.in_ok-items-in-Some.ensures.made
 
 pub pass_item-returns-in_ok-items-in-None-clause-made : goal.pass_item-returns-in_ok-items-in-None-clause-made
-pass_item-returns-in_ok-items-in-None-clause-made t c = other_made _ _ _ _ _ c.in-None.is c.declaration_in.ensures c.in_ok-made.ensures.made c.in_ok-items-in-None.ensures.made
+pass_item-returns-in_ok-items-in-None-clause-made t c = other_made _ c.args.s.now c.args.names.now _ _ c.in-None.is c.declaration_in.ensures c.in_ok-made-in-None.ensures.made c.in_ok-items-in-None.ensures.made
