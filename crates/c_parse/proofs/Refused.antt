@@ -1,9 +1,8 @@
 -- The refusal of the symbols at which reading fails.
-use Rattle.std.proofs.Common.{◌≡◌, ℕ, Bool, true, false, List, [], ◌∷◌, refl, cond, subst, sym}
+use Rattle.std.proofs.Common.{◌≡◌, ℕ, Bool, true, false, List, [], ◌∷◌, refl, cond, subst}
 use Rattle.c_lex.specs.declared.tokens.Token.{Token}
 use Rattle.c_parse.specs.declared.symbols.Class.{Class}
 use Rattle.c_parse.specs.declared.symbols.Class.TheVariants as class
-use Rattle.c_parse.specs.declared.refusals.ParseRefusal.{ParseRefusal}
 use Rattle.c_parse.specs.declared.refusals.ParseRefusal.TheVariants.{Syntax, Pragma}
 use Rattle.c_parse.specs.Symbols.{Sym, Symbols}
 use Rattle.c_parse.specs.Reading.{Fails}

@@ -1,5 +1,5 @@
 -- The symbol of one token, and the symbols of a list of tokens one by one.
-use Rattle.std.proofs.Common.{◌≡◌, ℕ, ◌+◌, ◌<◌, ◌≤◌, Bool, List, [], ◌∷◌, ◌++◌, Option, Some, None, Result, Ok, Err, IfOk, IfErr, length, drop, map, get_or, refl, sym, ap, ◌∙◌, subst, append_assoc, add-one, drop-cons}
+use Rattle.std.proofs.Common.{◌≡◌, ℕ, ◌+◌, ◌<◌, ◌≤◌, Bool, List, [], ◌∷◌, ◌++◌, Some, None, Result, Ok, Err, IfOk, IfErr, length, drop, map, get_or, refl, sym, ap, ◌∙◌, subst, append_assoc, add-one, drop-cons}
 use Rattle.std.proofs.lemmas.List.{map-append, drop_all, append-nil}
 use Rattle.mpc_base.specs.declared.owners.Level.{Level}
 use Rattle.hls_pragma.specs.declared.directives.NameSpan.{NameSpan}
@@ -12,7 +12,7 @@ use Rattle.c_lex.specs.declared.tokens.Kind.TheVariants as kind
 use Rattle.c_parse.specs.declared.symbols.Class.{Class}
 use Rattle.c_parse.specs.declared.symbols.Class.TheVariants as class
 use Rattle.c_parse.specs.declared.symbols.Symbol.{Symbol}
-use Rattle.c_parse.specs.Symbols.{Sym, Symbols, Shows, none, shown, foreign, as_scope, as_single, as_barrier, as_refused, as_name, as_number, as_text, as_key, as_sign, sym_of, symbol_at, bytes_of, class_of, named_in}
+use Rattle.c_parse.specs.Symbols.{Sym, Symbols, Shows, none, shown, foreign, as_scope, as_single, as_barrier, as_refused, sym_of, bytes_of, named_in}
 use Rattle.c_parse.specs.Spellings.{Sees, made}
 
 pub sees_some : (src : List ℕ) (t : Token) (c : Class) (names : List (List ℕ)) (s : Symbol) → s ≡ made t c names → Shows src t c names → Sees src t (Some s)

@@ -1,5 +1,5 @@
 -- A repetition, beside a loop that counts its turns.
-use Rattle.std.proofs.Common.{◌≡◌, ℕ, zero, suc, ◌+◌, ◌-◌, ◌<◌, ◌≤◌, Bool, true, false, List, [], ◌∷◌, ◌++◌, map, refl, ap, ◌∙◌, cond, arith}
+use Rattle.std.proofs.Common.{◌≡◌, ℕ, zero, suc, ◌+◌, ◌-◌, ◌<◌, ◌≤◌, Bool, true, false, List, refl, ap, ◌∙◌, cond, arith}
 use Rattle.c_parse.specs.Symbols.{Sym}
 use Rattle.c_parse.specs.Reading.{Read, Got, Fails, Reader, and_then, repeat_from}
 

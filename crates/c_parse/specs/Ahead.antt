@@ -1,5 +1,5 @@
 -- The symbols that a cursor has ahead.
-use Rattle.std.specs.Prelude.{◌≤◌, List, length, take, drop, map}
+use Rattle.std.specs.Prelude.{◌≤◌, List, length, drop, map}
 use Rattle.c_parse.specs.declared.cursor.Cursor.TheInside.{Inside}
 use Rattle.c_parse.specs.Symbols.{Sym, sym_of}
 

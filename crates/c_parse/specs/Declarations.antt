@@ -1,5 +1,5 @@
 -- How declarations are read (C99, section 6.7).
-use Rattle.std.specs.Prelude.{ℕ, Bool, true, false, if◌then◌else◌, List, [], ◌∷◌, ◌++◌, not, ◌&&◌, ◌||◌, Option, Some, None}
+use Rattle.std.specs.Prelude.{ℕ, Bool, true, false, if◌then◌else◌, List, [], ◌∷◌, not, ◌&&◌, ◌||◌, Option, Some, None}
 use Rattle.c_tree.specs.declared.syntax.Place.{Place}
 use Rattle.c_tree.specs.declared.syntax.Base.{Base}
 use Rattle.c_tree.specs.declared.syntax.Param.{Param}
@@ -11,9 +11,9 @@ use Rattle.c_parse.specs.declared.symbols.Class.TheVariants as class
 use Rattle.c_parse.specs.declared.symbols.Key.TheVariants as key
 use Rattle.c_parse.specs.declared.symbols.Mark.TheVariants as mark
 use Rattle.c_parse.specs.declared.grammar.Part.TheVariants as part
-use Rattle.c_parse.specs.Signs.{assigns, begins_base, is_key, is_star}
+use Rattle.c_parse.specs.Signs.{begins_base, is_key, is_star}
 use Rattle.c_parse.specs.Symbols.{Sym}
-use Rattle.c_parse.specs.Reading.{Got, Fails, Reader, ◌>>=◌, ◌>>◌, pure, refuse, next, here, advance, class_at, behind, sees, sees_key, behind_if, eat, eat_key, expect, name, no_comma, one_more, repeat, separated}
+use Rattle.c_parse.specs.Reading.{Got, Fails, Reader, ◌>>=◌, ◌>>◌, pure, here, class_at, behind, sees, behind_if, eat, eat_key, expect, name, no_comma, one_more, repeat, separated}
 use Rattle.c_parse.specs.Expressions.{type_base, star, expression}
 
 -- ---- declarators, with so many marked productions that may stand in one another

@@ -1,26 +1,21 @@
 -- How expressions are read (C99, section 6.5).
-use Rattle.std.specs.Prelude.{ℕ, zero, suc, ◌+◌, Bool, true, false, if◌then◌else◌, ◌==◌, List, [], ◌∷◌, ◌++◌, length, Option, Some, None, is_some, not, ◌&&◌, ◌||◌}
+use Rattle.std.specs.Prelude.{ℕ, zero, suc, Bool, true, false, if◌then◌else◌, List, [], ◌∷◌, Option, Some, None, is_some, not, ◌&&◌, ◌||◌}
 use Rattle.c_tree.specs.declared.syntax.Place.{Place}
 use Rattle.c_tree.specs.declared.syntax.Base.{Base}
 use Rattle.c_tree.specs.declared.syntax.Base.TheVariants as base
 use Rattle.c_tree.specs.declared.syntax.TypeName.{TypeName}
-use Rattle.c_tree.specs.declared.syntax.Unary.{Unary}
-use Rattle.c_tree.specs.declared.syntax.Unary.TheVariants as unary_sign
 use Rattle.c_tree.specs.declared.syntax.Binary.{Binary}
-use Rattle.c_tree.specs.declared.syntax.Binary.TheVariants as binary_sign
-use Rattle.c_tree.specs.declared.syntax.Change.{Change}
 use Rattle.c_tree.specs.Syntax as x
 use Rattle.c_parse.specs.declared.symbols.Class.{Class}
 use Rattle.c_parse.specs.declared.symbols.Class.TheVariants as class
 use Rattle.c_parse.specs.declared.symbols.Key.TheVariants as key
 use Rattle.c_parse.specs.declared.symbols.Mark.TheVariants as mark
 use Rattle.c_parse.specs.declared.signs.Prefix.{Prefix}
-use Rattle.c_parse.specs.declared.signs.Prefix.TheVariants.{Sign, Step}
 use Rattle.c_parse.specs.declared.grammar.Part.{Part}
 use Rattle.c_parse.specs.declared.grammar.Part.TheVariants as part
 use Rattle.c_parse.specs.Signs.{binary_of, prefix_of, prefixed, assigns, base_of, begins_base, is_number, is_star, is_mark, is_key}
 use Rattle.c_parse.specs.Symbols.{Sym}
-use Rattle.c_parse.specs.Reading.{Read, Got, Fails, Reader, ◌>>=◌, ◌>>◌, pure, refuse, next, here, advance, bytes, class_at, sees, behind_if, eat, eat_key, expect, name, separated, repeat, within}
+use Rattle.c_parse.specs.Reading.{Got, Reader, ◌>>=◌, ◌>>◌, pure, refuse, next, here, advance, bytes, class_at, sees, behind_if, eat, eat_key, expect, name, separated, repeat, within}
 
 -- ---- types
 

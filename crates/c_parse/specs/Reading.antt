@@ -1,5 +1,5 @@
 -- What a reader with one symbol in view does, and the steps that every production is made of.
-use Rattle.std.specs.Prelude.{◌≡◌, ℕ, zero, suc, ◌+◌, ◌-◌, Bool, true, false, if◌then◌else◌, nat_lt, List, [], ◌∷◌, ◌++◌, length, take, drop, Result, Ok, Err, not}
+use Rattle.std.specs.Prelude.{◌≡◌, ℕ, zero, suc, ◌+◌, ◌-◌, Bool, if◌then◌else◌, nat_lt, List, [], ◌∷◌, ◌++◌, length, take, drop, Result, Ok, Err, not}
 use Rattle.c_tree.specs.declared.syntax.Place.{Place}
 use Rattle.c_parse.specs.declared.stops.Stop.{Stop}
 use Rattle.c_parse.specs.declared.stops.Stop.TheVariants.{Memory, Refused}

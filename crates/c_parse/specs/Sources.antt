@@ -10,7 +10,7 @@ use Rattle.c_parse.specs.declared.symbols.Class.TheVariants as class
 use Rattle.c_parse.specs.declared.symbols.Key.TheVariants as key
 use Rattle.c_parse.specs.declared.symbols.Mark.TheVariants as mark
 use Rattle.c_parse.specs.Symbols.{Sym}
-use Rattle.c_parse.specs.Reading.{Got, Reader, ◌>>=◌, ◌>>◌, pure, refuse, next, here, names, class_at, sees, eat, eat_key, expect, name, repeat}
+use Rattle.c_parse.specs.Reading.{Reader, ◌>>=◌, ◌>>◌, pure, next, here, names, sees, eat, eat_key, expect, name, repeat}
 use Rattle.c_parse.specs.Expressions.{type_base, star}
 use Rattle.c_parse.specs.Declarations.{declared, declaration_from, params}
 use Rattle.c_parse.specs.Statements.{body, inside}

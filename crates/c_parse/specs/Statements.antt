@@ -8,8 +8,7 @@ use Rattle.c_parse.specs.declared.symbols.Key.TheVariants as key
 use Rattle.c_parse.specs.declared.symbols.Mark.{Mark}
 use Rattle.c_parse.specs.declared.symbols.Mark.TheVariants as mark
 use Rattle.c_parse.specs.declared.grammar.Part.TheVariants as part
-use Rattle.c_parse.specs.Symbols.{Sym}
-use Rattle.c_parse.specs.Reading.{Got, Reader, ◌>>=◌, ◌>>◌, pure, refuse, next, here, advance, names, class_at, sees, behind_if, eat, eat_key, expect, expect_key, repeat}
+use Rattle.c_parse.specs.Reading.{Got, Reader, ◌>>=◌, ◌>>◌, pure, refuse, next, here, advance, names, sees, eat_key, expect, expect_key, repeat}
 use Rattle.c_parse.specs.Expressions.{expression}
 use Rattle.c_parse.specs.Declarations.{declaration, begins_declaration}
 

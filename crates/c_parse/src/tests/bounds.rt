@@ -62,7 +62,7 @@ fn depth_128_and_no_deeper(rt: HostRuntime) -> Result<(), Fail> {
             "{most} {}",
             parts.0
         );
-        let deeper = nested(rt.alloc(), ends, parts, most + 1, middle)?;
+        let deeper = nested(rt.alloc(), ends, parts, most.saturating_add(1), middle)?;
         assert_eq!(rt;
             answered(rt.alloc(), deeper.as_str())?,
             Verdict::Syntax(1, col),

@@ -47,148 +47,150 @@ fn change_text(change: Change) -> &'static str {
     }
 }
 
-fn put(out: &mut Vec<u8>, text: &str) -> Result<(), Memory> {
-    out.extend_from_slice(text.as_bytes())?;
-    Ok(())
-}
-
-// Two operands with a sign between them, in brackets.
-#[cycle(put)]
-fn put_two(left: &Expr, sign: &str, right: &Expr, out: &mut Vec<u8>) -> Result<(), Memory> {
-    put(out, "(")?;
-    put_expr(left, out)?;
-    put(out, sign)?;
-    put_expr(right, out)?;
-    put(out, ")")
+// Want of memory leaves the text short, so that it is not the wanted one.
+fn put(out: &mut Vec<u8>, text: &[u8]) {
+    let _ = out.extend_from_slice(text);
 }
 
 // The expression with brackets around all that is made of more than one.
-#[cycle(put)]
-fn put_expr(expr: &Expr, out: &mut Vec<u8>) -> Result<(), Memory> {
+fn put_expr(expr: &Expr, out: &mut Vec<u8>) {
     match expr {
-        Expr::Name(_, name) => {
-            out.extend_from_slice(name.as_slice())?;
-            Ok(())
-        }
-        Expr::Text(_, text) => {
-            out.extend_from_slice(text.as_slice())?;
-            Ok(())
-        }
-        Expr::Number(_, _, _) => put(out, "0"),
-        Expr::SizeOf(_, _) => put(out, "sizeof"),
+        Expr::Name(_, name) => put(out, name.as_slice()),
+        Expr::Text(_, text) => put(out, text.as_slice()),
+        Expr::Number(_, _, _) => put(out, b"0"),
+        Expr::SizeOf(_, _) => put(out, b"sizeof"),
         Expr::Call(_, name, arguments) => {
-            out.extend_from_slice(name.as_slice())?;
-            put(out, "(")?;
+            put(out, name.as_slice());
+            put(out, b"(");
             for argument in arguments {
-                put_expr(argument, out)?;
-                put(out, ",")?;
+                put_expr(argument, out);
+                put(out, b",");
             }
-            put(out, ")")
+            put(out, b")");
         }
-        Expr::Index(_, array, index) => put_two(array, "@", index, out),
+        Expr::Index(_, array, index) => {
+            put(out, b"(");
+            put_expr(array, out);
+            put(out, b"@");
+            put_expr(index, out);
+            put(out, b")");
+        }
         Expr::Field(_, operand, name) => {
-            put(out, "(")?;
-            put_expr(operand, out)?;
-            put(out, ".")?;
-            out.extend_from_slice(name.as_slice())?;
-            put(out, ")")
+            put(out, b"(");
+            put_expr(operand, out);
+            put(out, b".");
+            put(out, name.as_slice());
+            put(out, b")");
         }
         Expr::Postfix(_, change, operand) => {
-            put(out, "(")?;
-            put_expr(operand, out)?;
-            put(out, change_text(*change))?;
-            put(out, ")")
+            put(out, b"(");
+            put_expr(operand, out);
+            put(out, change_text(*change).as_bytes());
+            put(out, b")");
         }
         Expr::Prefix(_, change, operand) => {
-            put(out, "(")?;
-            put(out, change_text(*change))?;
-            put_expr(operand, out)?;
-            put(out, ")")
+            put(out, b"(");
+            put(out, change_text(*change).as_bytes());
+            put_expr(operand, out);
+            put(out, b")");
         }
         Expr::Unary(_, sign, operand) => {
-            put(out, "(")?;
-            put(out, unary_text(*sign))?;
-            put_expr(operand, out)?;
-            put(out, ")")
+            put(out, b"(");
+            put(out, unary_text(*sign).as_bytes());
+            put_expr(operand, out);
+            put(out, b")");
         }
         Expr::Cast(_, to, operand) => {
-            put(out, if to.pointer { "(cast* " } else { "(cast " })?;
-            put_expr(operand, out)?;
-            put(out, ")")
+            put(out, if to.pointer { b"(cast* " } else { b"(cast_ " });
+            put_expr(operand, out);
+            put(out, b")");
         }
-        Expr::Binary(_, sign, left, right) => put_two(left, binary_text(*sign), right, out),
+        Expr::Binary(_, sign, left, right) => {
+            put(out, b"(");
+            put_expr(left, out);
+            put(out, binary_text(*sign).as_bytes());
+            put_expr(right, out);
+            put(out, b")");
+        }
         Expr::Choice(_, test, yes, no) => {
-            put(out, "(")?;
-            put_expr(test, out)?;
-            put_two(yes, ":", no, out)?;
-            put(out, ")")
+            put(out, b"(");
+            put_expr(test, out);
+            put(out, b"?");
+            put_expr(yes, out);
+            put(out, b":");
+            put_expr(no, out);
+            put(out, b")");
         }
-        Expr::Assign(_, None, left, right) => put_two(left, "=", right, out),
-        Expr::Assign(_, Some(sign), left, right) => {
-            put(out, binary_text(*sign))?;
-            put_two(left, "=", right, out)
+        Expr::Assign(_, sign, left, right) => {
+            put(out, b"(");
+            put_expr(left, out);
+            if let Some(sign) = sign {
+                put(out, binary_text(*sign).as_bytes());
+            }
+            put(out, b"=");
+            put_expr(right, out);
+            put(out, b")");
         }
     }
 }
 
 // What kind of statement it is, with what it holds.
-fn put_stmt(stmt: &Stmt, out: &mut Vec<u8>) -> Result<(), Memory> {
+fn put_stmt(stmt: &Stmt, out: &mut Vec<u8>) {
     match stmt {
         Stmt::Eval(_, value) => put_expr(value, out),
         Stmt::Block(_, items, _) => {
-            put(out, "{")?;
+            put(out, b"{");
             for item in items {
-                put_stmt(item, out)?;
-                put(out, ";")?;
+                put_stmt(item, out);
+                put(out, b";");
             }
-            put(out, "}")
+            put(out, b"}");
         }
         Stmt::If(_, test, body) => {
-            put(out, "if ")?;
-            put_expr(test, out)?;
-            put(out, " [")?;
-            put_stmt(body, out)?;
-            put(out, "]")
+            put(out, b"if ");
+            put_expr(test, out);
+            put(out, b" [");
+            put_stmt(body, out);
+            put(out, b"]");
         }
         Stmt::IfElse(_, test, body, other) => {
-            put(out, "if ")?;
-            put_expr(test, out)?;
-            put(out, " [")?;
-            put_stmt(body, out)?;
-            put(out, "] else [")?;
-            put_stmt(other, out)?;
-            put(out, "]")
+            put(out, b"if ");
+            put_expr(test, out);
+            put(out, b" [");
+            put_stmt(body, out);
+            put(out, b"] else [");
+            put_stmt(other, out);
+            put(out, b"]");
         }
         Stmt::While(_, test, body) => {
-            put(out, "while ")?;
-            put_expr(test, out)?;
-            put(out, " [")?;
-            put_stmt(body, out)?;
-            put(out, "]")
+            put(out, b"while ");
+            put_expr(test, out);
+            put(out, b" [");
+            put_stmt(body, out);
+            put(out, b"]");
         }
         Stmt::DoWhile(_, body, test) => {
-            put(out, "do [")?;
-            put_stmt(body, out)?;
-            put(out, "] while ")?;
-            put_expr(test, out)
+            put(out, b"do [");
+            put_stmt(body, out);
+            put(out, b"] while ");
+            put_expr(test, out);
         }
-        _ => put(out, "other"),
+        _ => put(out, b"other"),
     }
 }
 
 // The items of the body of the source's last function.
-fn put_tree(tree: &Tree, out: &mut Vec<u8>) -> Result<(), Memory> {
+fn put_tree(tree: &Tree, out: &mut Vec<u8>) {
     for item in &tree.items {
         if let Item::Function(function) = item
             && let Some(body) = &function.body
         {
             for stmt in &body.items {
-                put_stmt(stmt, out)?;
-                put(out, ";")?;
+                put_stmt(stmt, out);
+                put(out, b";");
             }
         }
     }
-    Ok(())
 }
 
 // The statements of a function, as they group; empty where the source is refused.
@@ -198,7 +200,7 @@ fn shape(alloc: Global, statements: &str) -> Result<Vec<u8>, Memory> {
     src.push_str(" }")?;
     let mut out = Vec::new(alloc);
     if let Ok(tree) = parsed(alloc, src.as_str())? {
-        put_tree(&tree, &mut out)?;
+        put_tree(&tree, &mut out);
     }
     Ok(out)
 }
@@ -227,11 +229,11 @@ fn each_level_groups_as_it_is_to(rt: HostRuntime) -> Result<(), Fail> {
         ("a + b * c + d;", "((a+(b*c))+d);"),
         ("a * (b + c) * d;", "((a*(b+c))*d);"),
         ("a = b = c;", "(a=(b=c));"),
-        ("a -= b <<= c;", "-(a=<<(b=c));"),
-        ("a = b ? c : d;", "(a=(b(c:d)));"),
-        ("a ? b : c ? d : e;", "(a(b:(c(d:e))));"),
-        ("a ? b ? c : d : e;", "(a((b(c:d)):e));"),
-        ("a || b ? c = d : e;", "((a||b)((c=d):e));"),
+        ("a -= b <<= c;", "(a-=(b<<=c));"),
+        ("a = b ? c : d;", "(a=(b?c:d));"),
+        ("a ? b : c ? d : e;", "(a?b:(c?d:e));"),
+        ("a ? b ? c : d : e;", "(a?(b?c:d):e);"),
+        ("a || b ? c = d : e;", "((a||b)?(c=d):e);"),
         ("-a * !b;", "((-a)*(!b));"),
         ("- -a - - b;", "((-(-a))-(-b));"),
         ("*&~+a;", "(*(&(~(+a))));"),
@@ -241,9 +243,9 @@ fn each_level_groups_as_it_is_to(rt: HostRuntime) -> Result<(), Fail> {
         ("-a[b].c;", "(-((a@b).c));"),
         ("a[b][c]--;", "(((a@b)@c)--);"),
         ("f(a, b = c, g())[d];", "(f(a,(b=c),g(),)@d);"),
-        ("(int) a + b;", "((cast a)+b);"),
+        ("(int) a + b;", "((cast_ a)+b);"),
         ("(long *) a++;", "(cast* (a++));"),
-        ("(int) -a[b];", "(cast (-(a@b)));"),
+        ("(int) -a[b];", "(cast_ (-(a@b)));"),
         ("sizeof(int) * a;", "(sizeof*a);"),
         ("((a)) = \"t\";", "(a=\"t\");"),
         ("if (a) if (b) c; else d;", "if a [if b [c] else [d]];"),

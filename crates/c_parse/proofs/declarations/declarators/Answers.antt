@@ -1,5 +1,4 @@
 use Rattle.std.proofs.Common.{◌∙◌, sym, ap, not}
-use Rattle.c_tree.specs.SyntaxOf.{declarator_of}
 use Rattle.c_parse.specs.Declarations.{declarator}
 use Rattle.c_parse.specs.Reading.{no_comma, one_more}
 use Rattle.c_parse.proofs.Turns.{turn_steps, turn_stops, turns_over}

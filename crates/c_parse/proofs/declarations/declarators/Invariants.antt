@@ -1,7 +1,7 @@
 use Rattle.std.proofs.Common.{◌≡◌, ◌-◌, map, ◌∷◌, []}
 use Rattle.c_tree.specs.SyntaxOf.{declarator_of}
 use Rattle.c_parse.specs.Declarations.{declarator}
-use Rattle.c_parse.specs.Reading.{separated, repeat, repeat_from, no_comma, one_more}
+use Rattle.c_parse.specs.Reading.{repeat, repeat_from, no_comma, one_more}
 use Rattle.c_parse.proofs.declarations.declarators.Given as goal
 
 abbrev pub invariant-loop-turn : goal.invariant-loop-turn

@@ -1,5 +1,4 @@
 use Rattle.std.proofs.Common.{◌∙◌, sym, ap, not}
-use Rattle.c_tree.specs.SyntaxOf.{expr_of}
 use Rattle.c_parse.specs.declared.grammar.Part.TheVariants as part
 use Rattle.c_parse.specs.Expressions.{expression}
 use Rattle.c_parse.specs.Reading.{no_comma, one_more}

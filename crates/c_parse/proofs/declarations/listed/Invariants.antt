@@ -1,8 +1,8 @@
-use Rattle.std.proofs.Common.{◌≡◌, ◌-◌, map, ◌∷◌, []}
+use Rattle.std.proofs.Common.{◌≡◌, ◌-◌, map}
 use Rattle.c_tree.specs.SyntaxOf.{expr_of}
 use Rattle.c_parse.specs.declared.grammar.Part.TheVariants as part
 use Rattle.c_parse.specs.Expressions.{expression}
-use Rattle.c_parse.specs.Reading.{separated, repeat, repeat_from, no_comma, one_more}
+use Rattle.c_parse.specs.Reading.{separated, repeat_from, no_comma, one_more}
 use Rattle.c_parse.proofs.declarations.listed.Given as goal
 
 abbrev pub invariant-loop-turn : goal.invariant-loop-turn

@@ -1,6 +1,6 @@
-use Rattle.std.proofs.Common.{◌≡◌, ◌-◌, map, ◌∷◌, []}
+use Rattle.std.proofs.Common.{◌≡◌, ◌-◌}
 use Rattle.c_parse.specs.Declarations.{param}
-use Rattle.c_parse.specs.Reading.{separated, repeat, repeat_from, no_comma, one_more}
+use Rattle.c_parse.specs.Reading.{separated, repeat_from, no_comma, one_more}
 use Rattle.c_parse.proofs.params.listed.Given as goal
 
 abbrev pub invariant-loop-turn : goal.invariant-loop-turn

@@ -1,9 +1,8 @@
 use Rattle.std.proofs.Common.{◌∙◌, sym, ap, not}
-use Rattle.c_tree.specs.SyntaxOf.{expr_of}
 use Rattle.c_parse.specs.declared.grammar.Part.TheVariants as part
 use Rattle.c_parse.specs.Reading.{no_comma, one_more}
 use Rattle.c_parse.specs.Expressions.{nest}
-use Rattle.c_parse.proofs.Turns.{turn_steps, turn_stops, turns_over, turn_fails}
+use Rattle.c_parse.proofs.Turns.{turn_steps, turn_stops, turns_over}
 use Rattle.c_parse.proofs.grammar.Grammar.listed.Goals as goal
 
 pub loop-turn-preserved : goal.loop-turn-preserved

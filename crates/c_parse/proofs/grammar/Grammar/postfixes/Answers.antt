@@ -1,5 +1,4 @@
 use Rattle.std.proofs.Common.{◌∙◌, sym}
-use Rattle.c_tree.specs.SyntaxOf.{expr_of}
 use Rattle.c_parse.specs.Expressions.{nest, stops, postfix}
 use Rattle.c_parse.proofs.Turns.{turn_steps}
 use Rattle.c_parse.proofs.grammar.Grammar.postfixes.Goals as goal
