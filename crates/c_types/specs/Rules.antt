@@ -28,74 +28,74 @@ use Rattle.c_types.specs.declared.shapes.Shape.TheVariants.{Item, Statement, Cal
 use Rattle.c_types.specs.Kinds.{int, long, is_number, is_pointer, is_null, points, is_condition, is_status, is_plain, is_stored, agree, alike, can_compare, comparable, misses, has, differ, wider, sum_kind, choice_kind, element_of, same_kind}
 
 pub data Rule : Type 0 where
-  R1 : Rule
-  R2 : Rule
-  R3 : Rule
-  R4 : Rule
-  R5 : Rule
-  R6 : Rule
-  R7 : Rule
-  R8 : Rule
-  R9 : Rule
-  R10 : Rule
-  R11 : Rule
-  R12 : Rule
-  R13 : Rule
-  R14 : Rule
-  R15 : Rule
-  R16 : Rule
-  R17 : Rule
-  R18 : Rule
-  R19 : Rule
-  R20 : Rule
-  R21 : Rule
-  R22 : Rule
-  R23 : Rule
-  R24 : Rule
-  R25 : Rule
-  R26 : Rule
-  R27 : Rule
-  R28 : Rule
-  R29 : Rule
-  R30 : Rule
-  R31 : Rule
-  R32 : Rule
-  R33 : Rule
+  Rule1 : Rule
+  Rule2 : Rule
+  Rule3 : Rule
+  Rule4 : Rule
+  Rule5 : Rule
+  Rule6 : Rule
+  Rule7 : Rule
+  Rule8 : Rule
+  Rule9 : Rule
+  Rule10 : Rule
+  Rule11 : Rule
+  Rule12 : Rule
+  Rule13 : Rule
+  Rule14 : Rule
+  Rule15 : Rule
+  Rule16 : Rule
+  Rule17 : Rule
+  Rule18 : Rule
+  Rule19 : Rule
+  Rule20 : Rule
+  Rule21 : Rule
+  Rule22 : Rule
+  Rule23 : Rule
+  Rule24 : Rule
+  Rule25 : Rule
+  Rule26 : Rule
+  Rule27 : Rule
+  Rule28 : Rule
+  Rule29 : Rule
+  Rule30 : Rule
+  Rule31 : Rule
+  Rule32 : Rule
+  Rule33 : Rule
 
 abbrev pub number : Rule → ℕ
-number R1 = 1
-number R2 = 2
-number R3 = 3
-number R4 = 4
-number R5 = 5
-number R6 = 6
-number R7 = 7
-number R8 = 8
-number R9 = 9
-number R10 = 10
-number R11 = 11
-number R12 = 12
-number R13 = 13
-number R14 = 14
-number R15 = 15
-number R16 = 16
-number R17 = 17
-number R18 = 18
-number R19 = 19
-number R20 = 20
-number R21 = 21
-number R22 = 22
-number R23 = 23
-number R24 = 24
-number R25 = 25
-number R26 = 26
-number R27 = 27
-number R28 = 28
-number R29 = 29
-number R30 = 30
-number R31 = 31
-number R32 = 32
-number R33 = 33
+number Rule1 = 1
+number Rule2 = 2
+number Rule3 = 3
+number Rule4 = 4
+number Rule5 = 5
+number Rule6 = 6
+number Rule7 = 7
+number Rule8 = 8
+number Rule9 = 9
+number Rule10 = 10
+number Rule11 = 11
+number Rule12 = 12
+number Rule13 = 13
+number Rule14 = 14
+number Rule15 = 15
+number Rule16 = 16
+number Rule17 = 17
+number Rule18 = 18
+number Rule19 = 19
+number Rule20 = 20
+number Rule21 = 21
+number Rule22 = 22
+number Rule23 = 23
+number Rule24 = 24
+number Rule25 = 25
+number Rule26 = 26
+number Rule27 = 27
+number Rule28 = 28
+number Rule29 = 29
+number Rule30 = 30
+number Rule31 = 31
+number Rule32 = 32
+number Rule33 = 33
 
 -- the type that a name has as a value
 abbrev pub value_kind : Option Decl → Option Kind
@@ -222,108 +222,108 @@ is_none a = not (is_some a)
 -- the nodes that break a rule, rule by rule
 abbrev pub breaks : Rule → Shape → Bool
 -- there is no definition of main with the answer int and the parameters none, or an int and a char parameter
-breaks R1 (Item (Unit has_main)) = not has_main
+breaks Rule1 (Item (Unit has_main)) = not has_main
 -- a name is declared twice in one scope
-breaks R2 (Item (Variable declared)) = declared.is_twice
-breaks R2 (Item (A_parameter parameter)) = parameter.is_twice
-breaks R2 (Item (Function is_twice is_known returns)) = is_twice
+breaks Rule2 (Item (Variable declared)) = declared.is_twice
+breaks Rule2 (Item (A_parameter parameter)) = parameter.is_twice
+breaks Rule2 (Item (Function is_twice is_known returns)) = is_twice
 -- a name is used that is not declared, or as another thing than it is
-breaks R3 (Operand (Used declared)) = has_no_value declared
-breaks R3 (Call Nothing) = true
+breaks Rule3 (Operand (Used declared)) = has_no_value declared
+breaks Rule3 (Call Nothing) = true
 -- a known name is declared
-breaks R4 (Item (Variable declared)) = declared.is_known
-breaks R4 (Item (A_parameter parameter)) = parameter.is_known
-breaks R4 (Item (Function is_twice is_known returns)) = is_known
+breaks Rule4 (Item (Variable declared)) = declared.is_known
+breaks Rule4 (Item (A_parameter parameter)) = parameter.is_known
+breaks Rule4 (Item (Function is_twice is_known returns)) = is_known
 -- an array length is no constant in its limits, or there are too many static variables or words
-breaks R5 (Item (Variable declared)) = not declared.fits
+breaks Rule5 (Item (Variable declared)) = not declared.fits
 -- a static initializer is no constant, has a fault, has another type, or is a list that does not fit
-breaks R6 (Item (Variable declared)) = is_constant_amiss declared.initial
+breaks Rule6 (Item (Variable declared)) = is_constant_amiss declared.initial
 -- a local array or MPI_Status has an initializer
-breaks R7 (Item (Variable declared)) = not declared.is_static && is_whole declared && is_given declared.initial
+breaks Rule7 (Item (Variable declared)) = not declared.is_static && is_whole declared && is_given declared.initial
 -- an array of MPI_Comm, and types that parameters and answers do not have
-breaks R8 (Item (Variable declared)) = declared.is_array && same_kind (Plain declared.base) (Plain Comm)
-breaks R8 (Item (A_parameter parameter)) = is_no_parameter parameter
-breaks R8 (Item (Function is_twice is_known returns)) = is_no_answer returns
+breaks Rule8 (Item (Variable declared)) = declared.is_array && same_kind (Plain declared.base) (Plain Comm)
+breaks Rule8 (Item (A_parameter parameter)) = is_no_parameter parameter
+breaks Rule8 (Item (Function is_twice is_known returns)) = is_no_answer returns
 -- an operand of an arithmetic sign, an index, a shift or a numeric cast is no number, or sizeof has another base
-breaks R9 (Operator (Arithmetic a b)) = no_numbers a b
-breaks R9 (Operator (Shifted a b)) = no_numbers a b
-breaks R9 (Operator (Sum a b)) = is_no_number_sum a b
-breaks R9 (Operator (Computed by side a b)) = cond (moves by) (is_no_number_sum a b) (no_numbers a b)
-breaks R9 (Operand (Signed a)) = misses is_number a
-breaks R9 (Operand (Element a b)) = misses is_number b
-breaks R9 (Operand (Converted base a)) = casts_amiss base a
-breaks R9 (Operand (Sized base)) = has_no_size base
+breaks Rule9 (Operator (Arithmetic a b)) = no_numbers a b
+breaks Rule9 (Operator (Shifted a b)) = no_numbers a b
+breaks Rule9 (Operator (Sum a b)) = is_no_number_sum a b
+breaks Rule9 (Operator (Computed by side a b)) = cond (moves by) (is_no_number_sum a b) (no_numbers a b)
+breaks Rule9 (Operand (Signed a)) = misses is_number a
+breaks Rule9 (Operand (Element a b)) = misses is_number b
+breaks Rule9 (Operand (Converted base a)) = casts_amiss base a
+breaks Rule9 (Operand (Sized base)) = has_no_size base
 -- + or - with a pointer is not of a pointer on the left and a number on the right
-breaks R10 (Operator (Sum a b)) = is_no_pointer_sum a b
-breaks R10 (Operator (Computed by side a b)) = moves by && is_no_pointer_sum a b
+breaks Rule10 (Operator (Sum a b)) = is_no_pointer_sum a b
+breaks Rule10 (Operator (Computed by side a b)) = moves by && is_no_pointer_sum a b
 -- == or != compares other things than two numbers, two pointers of one type or NULL, two MPI_Comm, two MPI_Request
-breaks R11 (Operator (Compared a b)) = cannot_compare a b
+breaks Rule11 (Operator (Compared a b)) = cannot_compare a b
 -- an order compares other things than two numbers
-breaks R12 (Operator (Ordered a b)) = no_numbers a b
+breaks Rule12 (Operator (Ordered a b)) = no_numbers a b
 -- a condition or an operand of !, && or || is no number and no pointer
-breaks R13 (Statement (Tested a)) = misses is_condition a
-breaks R13 (Operand (Negated a)) = misses is_condition a
-breaks R13 (Operator (Joined a b)) = misses is_condition a || misses is_condition b
-breaks R13 (Operator (Chosen test a b)) = misses is_condition test
+breaks Rule13 (Statement (Tested a)) = misses is_condition a
+breaks Rule13 (Operand (Negated a)) = misses is_condition a
+breaks Rule13 (Operator (Joined a b)) = misses is_condition a || misses is_condition b
+breaks Rule13 (Operator (Chosen test a b)) = misses is_condition test
 -- the two sides of ?: are not two numbers, of one type, or a pointer and NULL
-breaks R14 (Operator (Chosen test a b)) = differ alike a b
+breaks Rule14 (Operator (Chosen test a b)) = differ alike a b
 -- the left of an assignment cannot be assigned, or the right side has another type
-breaks R15 (Operator (Assigned side b)) = is_no_target side || misses (takes side) b
-breaks R15 (Operator (Computed by side a b)) = is_no_target side
-breaks R15 (Item (Variable declared)) = not declared.is_static && not (is_whole declared) && is_value_amiss declared.kind declared.initial
+breaks Rule15 (Operator (Assigned side b)) = is_no_target side || misses (takes side) b
+breaks Rule15 (Operator (Computed by side a b)) = is_no_target side
+breaks Rule15 (Item (Variable declared)) = not declared.is_static && not (is_whole declared) && is_value_amiss declared.kind declared.initial
 -- ++ or -- is not on a place of type int, long or pointer
-breaks R16 (Operand (Stepped side)) = cannot_step side
+breaks Rule16 (Operand (Stepped side)) = cannot_step side
 -- & is not on a variable or element of type int, long, MPI_Comm, MPI_Request or MPI_Status
-breaks R17 (Operand (Located side)) = cannot_locate side
+breaks Rule17 (Operand (Located side)) = cannot_locate side
 -- * or [ is not on a pointer or an array
-breaks R18 (Operand (Pointed a)) = misses is_pointer a
-breaks R18 (Operand (Element a b)) = misses is_pointer a
+breaks Rule18 (Operand (Pointed a)) = misses is_pointer a
+breaks Rule18 (Operand (Element a b)) = misses is_pointer a
 -- a field is not MPI_SOURCE or MPI_TAG, or not of an MPI_Status
-breaks R19 (Operand (Field is_field a)) = not is_field || misses is_status a
+breaks Rule19 (Operand (Field is_field a)) = not is_field || misses is_status a
 -- a call's arguments differ in number or in type
-breaks R20 (Call (Own is_defined agrees returns)) = not agrees
+breaks Rule20 (Call (Own is_defined agrees returns)) = not agrees
 -- a called function is nowhere defined
-breaks R21 (Call (Own is_defined agrees returns)) = not is_defined
+breaks Rule21 (Call (Own is_defined agrees returns)) = not is_defined
 -- a return has no value where one is due, or one where none is due, or another type
-breaks R22 (Statement (Returned due given)) = returns_amiss due given
+breaks Rule22 (Statement (Returned due given)) = returns_amiss due given
 -- break or continue stands in no loop
-breaks R23 (Statement (Jumped in_loop)) = not in_loop
+breaks Rule23 (Statement (Jumped in_loop)) = not in_loop
 -- printf's arguments are not a format and its numbers
-breaks R24 (Call (Printf agrees)) = not agrees
+breaks Rule24 (Call (Printf agrees)) = not agrees
 -- malloc or a pointer cast stands where no pointer is assigned, or malloc's or free's argument is none
-breaks R25 (Call (Malloc element has_number)) = is_none element || not has_number
-breaks R25 (Call (Free has_pointer)) = not has_pointer
-breaks R25 (Operand (Cast base may_stand)) = not may_stand
+breaks Rule25 (Call (Malloc element has_number)) = is_none element || not has_number
+breaks Rule25 (Call (Free has_pointer)) = not has_pointer
+breaks Rule25 (Operand (Cast base may_stand)) = not may_stand
 -- an MPI function's arguments are not those of its row, or a text stands elsewhere than in printf
-breaks R26 (Call (Init has_two may_stand)) = not has_two
-breaks R26 (Call (Mpi meets agrees)) = not meets
-breaks R26 (Operand Text) = true
+breaks Rule26 (Call (Init has_two may_stand)) = not has_two
+breaks Rule26 (Call (Mpi meets agrees)) = not meets
+breaks Rule26 (Operand Text) = true
 -- a buffer and its datatype do not agree, or two datatypes of one collective differ
-breaks R27 (Call (Mpi meets agrees)) = not agrees
+breaks Rule27 (Call (Mpi meets agrees)) = not agrees
 -- MPI_Init's arguments are not NULL, NULL or main's own &argc, &argv
-breaks R28 (Call (Init has_two may_stand)) = not may_stand
+breaks Rule28 (Call (Init has_two may_stand)) = not may_stand
 -- argv stands elsewhere, argc is assigned or has its address taken elsewhere, or a char parameter stands elsewhere
-breaks R29 (Operand (Used declared)) = is_arguments declared
-breaks R29 (Operand (Stepped side)) = is_count side
-breaks R29 (Operand (Located side)) = is_count side
-breaks R29 (Operator (Assigned side b)) = is_count side
-breaks R29 (Operator (Computed by side a b)) = is_count side
-breaks R29 (Item (A_parameter parameter)) = is_arguments_kind parameter.kind && not parameter.is_main
+breaks Rule29 (Operand (Used declared)) = is_arguments declared
+breaks Rule29 (Operand (Stepped side)) = is_count side
+breaks Rule29 (Operand (Located side)) = is_count side
+breaks Rule29 (Operator (Assigned side b)) = is_count side
+breaks Rule29 (Operator (Computed by side a b)) = is_count side
+breaks Rule29 (Item (A_parameter parameter)) = is_arguments_kind parameter.kind && not parameter.is_main
 -- a scope directive does not stand before all functions, or names other than variables that may have a level yet
-breaks R30 (Item (Scope may_stand)) = not may_stand
+breaks Rule30 (Item (Scope may_stand)) = not may_stand
 -- the names of a single or a barrier are not variables with a level, or a single's are of two levels
-breaks R31 (Statement (Single are_shared may_stand before)) = not are_shared
-breaks R31 (Statement (Barrier are_shared before)) = not are_shared
+breaks Rule31 (Statement (Single are_shared may_stand before)) = not are_shared
+breaks Rule31 (Statement (Barrier are_shared before)) = not are_shared
 -- control may leave a single's block in another way than at its end, or another such statement stands in it
-breaks R32 (Statement (Single are_shared may_stand before)) = not may_stand
+breaks Rule32 (Statement (Single are_shared may_stand before)) = not may_stand
 -- 256 or more such statements stand before
-breaks R33 (Statement (Single are_shared may_stand before)) = nat_le 256 before
-breaks R33 (Statement (Barrier are_shared before)) = nat_le 256 before
+breaks Rule33 (Statement (Single are_shared may_stand before)) = nat_le 256 before
+breaks Rule33 (Statement (Barrier are_shared before)) = nat_le 256 before
 breaks other shape = false
 
 -- the rules in order
 abbrev pub all_rules : List Rule
-all_rules = R1 ∷ R2 ∷ R3 ∷ R4 ∷ R5 ∷ R6 ∷ R7 ∷ R8 ∷ R9 ∷ R10 ∷ R11 ∷ R12 ∷ R13 ∷ R14 ∷ R15 ∷ R16 ∷ R17 ∷ R18 ∷ R19 ∷ R20 ∷ R21 ∷ R22 ∷ R23 ∷ R24 ∷ R25 ∷ R26 ∷ R27 ∷ R28 ∷ R29 ∷ R30 ∷ R31 ∷ R32 ∷ R33 ∷ []
+all_rules = Rule1 ∷ Rule2 ∷ Rule3 ∷ Rule4 ∷ Rule5 ∷ Rule6 ∷ Rule7 ∷ Rule8 ∷ Rule9 ∷ Rule10 ∷ Rule11 ∷ Rule12 ∷ Rule13 ∷ Rule14 ∷ Rule15 ∷ Rule16 ∷ Rule17 ∷ Rule18 ∷ Rule19 ∷ Rule20 ∷ Rule21 ∷ Rule22 ∷ Rule23 ∷ Rule24 ∷ Rule25 ∷ Rule26 ∷ Rule27 ∷ Rule28 ∷ Rule29 ∷ Rule30 ∷ Rule31 ∷ Rule32 ∷ Rule33 ∷ []
 
 -- the number of the first of these rules that is broken
 abbrev pub first_of_rules : List Rule → Shape → Option ℕ
