@@ -157,7 +157,7 @@ module _ (env : Env) (want : Option Base) where
     any_made : (made : Result Expr TypeRefusal) → Makes made (call_made env want d (exprs_of items) (givens env (exprs_of items)) (passed env (passing env d) (exprs_of items))) → Makes made (typed env want (expr_of e))
     any_made made h =
         let same : call_made env want d (exprs_of items) (givens env (exprs_of items)) (passed env (passing env d) (exprs_of items)) ≡ typed env want (expr_of e) =
-          ap (λ o. call_made env want o (exprs_of items) (givens env (exprs_of items)) (passed env (passing env o) (exprs_of items))) (sym decl_is) ∙ sym (ap (typed env want) tree_is) in
+        ap (λ o. call_made env want o (exprs_of items) (givens env (exprs_of items)) (passed env (passing env o) (exprs_of items))) (sym decl_is) ∙ sym (ap (typed env want) tree_is) in
         subst (Makes made) same h
 
     -- what is called is this
@@ -216,8 +216,8 @@ module _ (env : Env) (want : Option Base) where
     mpi_made g rows gs all made fo er eg ha h =
         let P : List Argument → Type 0 = λ l. MakesAll all (passed env (Row l) (exprs_of items)) in
         let same : p.Apply (callee.Mpi (mpi_call g gs)) (row_made g (passed env (Row (arguments_of g)) (exprs_of items))) ≡ p.Apply (callee.Mpi (mpi_call g (givens env (exprs_of items)))) (passed env (row_of g) (exprs_of items)) =
-          ap (λ l. p.Apply (callee.Mpi (mpi_call g l)) (row_made g (passed env (Row (arguments_of g)) (exprs_of items)))) eg
-          ∙ ap (p.Apply (callee.Mpi (mpi_call g (givens env (exprs_of items))))) (row_passed g (exprs_of items)) in
+        ap (λ l. p.Apply (callee.Mpi (mpi_call g l)) (row_made g (passed env (Row (arguments_of g)) (exprs_of items)))) eg
+        ∙ ap (p.Apply (callee.Mpi (mpi_call g (givens env (exprs_of items))))) (row_passed g (exprs_of items)) in
         one_made (Some (decl.Known (a_known.Mpi g))) made (mpi_is d g (sym ef ∙ fo)) (subst (Makes made) same (h (passed env (Row (arguments_of g)) (exprs_of items)) (subst P er ha)))
 
     pub printf_kind : (others : List x.Expr) (ks : List (Option Kind)) (goal : Option Kind) → f ≡ called.Printf → others ≡ arguments.items → ks ≡ kinds env (exprs_of (drop 1 items))
@@ -240,8 +240,8 @@ module _ (env : Env) (want : Option Base) where
         → Makes made (typed env want (expr_of e))
     printf_made others all made fo eo ha h =
         let same : p.Apply (callee.Print (format_of (exprs_of others))) (passed env (Own []) (exprs_of (drop 1 items))) ≡ p.Apply (callee.Print (format_of (exprs_of items))) (passed env Format (exprs_of items)) =
-          ap (λ l. p.Apply (callee.Print (format_of (exprs_of l))) (passed env (Own []) (exprs_of (drop 1 items)))) (eo ∙ sym ei)
-          ∙ ap (p.Apply (callee.Print (format_of (exprs_of items)))) (format_passed items) in
+        ap (λ l. p.Apply (callee.Print (format_of (exprs_of l))) (passed env (Own []) (exprs_of (drop 1 items)))) (eo ∙ sym ei)
+        ∙ ap (p.Apply (callee.Print (format_of (exprs_of items)))) (format_passed items) in
         one_made (Some (decl.Known a_known.Printf)) made (printf_is d (sym ef ∙ fo)) (subst (Makes made) same (h (passed env (Own []) (exprs_of (drop 1 items))) ha))
 
     pub malloc_kind : (ks : List (Option Kind)) (goal : Option Kind) → f ≡ called.Malloc → ks ≡ kinds env (exprs_of items)

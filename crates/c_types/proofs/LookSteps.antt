@@ -127,10 +127,10 @@ module _ (env : Env) where
   made_on es i from e params old new one due k goal h is low ed ek makes step inv =
       let rest : p.Exprs = passed env (Own (drop (i - from + 1) params)) (exprs_of (drop (i + 1) es)) in
       let next : passed env (Own (drop (i - from) params)) (exprs_of (drop i es)) ≡ p.More (converted due k (typed env None (expr_of e))) rest =
-        ap (λ l. passed env (Own (drop (i - from) params)) (exprs_of l)) (here es i e h is)
-        ∙ own_next params (i - from) (expr_of e) (exprs_of (drop (i + 1) es)) (slice_get_cases params (i - from)).1
-        ∙ ap (λ o. p.More (converted o (kind_of env None (expr_of e)) (typed env None (expr_of e))) rest) (sym ed)
-        ∙ ap (λ o. p.More (converted due o (typed env None (expr_of e))) rest) (sym ek) in
+      ap (λ l. passed env (Own (drop (i - from) params)) (exprs_of l)) (here es i e h is)
+      ∙ own_next params (i - from) (expr_of e) (exprs_of (drop (i + 1) es)) (slice_get_cases params (i - from)).1
+      ∙ ap (λ o. p.More (converted o (kind_of env None (expr_of e)) (typed env None (expr_of e))) rest) (sym ed)
+      ∙ ap (λ o. p.More (converted due o (typed env None (expr_of e))) rest) (sym ek) in
       let same : i - from + 1 ≡ i + 1 - from = omega arith in
       let P : p.Exprs → Type 0 = λ l. MakesOnto old l goal in
       let Q : ℕ → Type 0 = λ n. MakesOnto new (passed env (Own (drop n params)) (exprs_of (drop (i + 1) es))) goal in
@@ -144,11 +144,11 @@ module _ (env : Env) where
   row_made_on es i e row old new one s due k goal h is es' ed ek makes step inv =
       let rest : p.Exprs = passed env (Row (drop (i + 1) row)) (exprs_of (drop (i + 1) es)) in
       let next : passed env (Row (drop i row)) (exprs_of (drop i es)) ≡ unless_special s (converted due k (typed env None (expr_of e))) rest =
-        ap (λ l. passed env (Row (drop i row)) (exprs_of l)) (here es i e h is)
-        ∙ row_next row i (expr_of e) (exprs_of (drop (i + 1) es)) (slice_get_cases row i).1
-        ∙ ap (λ o. unless_special (special env.scopes (expr_of e)) (converted o (kind_of env None (expr_of e)) (typed env None (expr_of e))) rest) (sym ed)
-        ∙ ap (λ o. unless_special (special env.scopes (expr_of e)) (converted due o (typed env None (expr_of e))) rest) (sym ek)
-        ∙ ap (λ o. unless_special o (converted due k (typed env None (expr_of e))) rest) (sym es') in
+      ap (λ l. passed env (Row (drop i row)) (exprs_of l)) (here es i e h is)
+      ∙ row_next row i (expr_of e) (exprs_of (drop (i + 1) es)) (slice_get_cases row i).1
+      ∙ ap (λ o. unless_special (special env.scopes (expr_of e)) (converted o (kind_of env None (expr_of e)) (typed env None (expr_of e))) rest) (sym ed)
+      ∙ ap (λ o. unless_special (special env.scopes (expr_of e)) (converted due o (typed env None (expr_of e))) rest) (sym ek)
+      ∙ ap (λ o. unless_special o (converted due k (typed env None (expr_of e))) rest) (sym es') in
       let P : p.Exprs → Type 0 = λ l. MakesOnto old l goal in
       step (typed env None (expr_of e)) rest goal makes (subst P next inv)
 

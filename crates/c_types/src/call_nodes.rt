@@ -133,10 +133,7 @@ pub fn own_call(names: &Names, place: usize, line: u32, given: Every) -> Looked
 }
 
 // The format that the first argument of printf is, if it is one.
-fn format_argument(
-    alloc: Global,
-    arguments: &[syntax::Expr],
-) -> Result<Option<ReadFormat>, Memory>
+fn format_argument(alloc: Global, arguments: &[syntax::Expr]) -> Result<Option<ReadFormat>, Memory>
     ensures { IfOk result (λ r. ReadsFirst (syntax.exprs_of arguments.now) r) }
 {
     match arguments.first() {
@@ -314,11 +311,16 @@ pub fn mpi_call(
         ≡ rules.kind (calls.mpi_shape function names.now.scopes (syntax.exprs_of arguments.now) given.givens.items) }
     ensures first { fault result.made
         ≡ blame (rules.rule (calls.mpi_shape function names.now.scopes (syntax.exprs_of arguments.now) given.givens.items)) line
-            (row_fault function (fault given.made)) }
+        (row_fault function (fault given.made)) }
     ensures made { (es : program.Exprs) → MakesAll given.made es → Makes result.made
         (program.Apply (callee.Mpi (typed.mpi_call function given.givens.items)) (row_made function es)) }
 {
     let shape = mpi_shape(function, names, arguments, &given.givens);
     let callee = Callee::Mpi(mpi_callee(function, &given.givens));
-    applied(shape, line, callee, row_arguments(alloc, function, given.made))
+    applied(
+        shape,
+        line,
+        callee,
+        row_arguments(alloc, function, given.made),
+    )
 }

@@ -156,12 +156,7 @@ pub fn is_malloc(names: &Names, e: &Expr) -> bool
 }
 
 /// What the rules read of a cast. One to a pointer stands over a malloc, where that is for a pointer.
-pub fn cast_shape(
-    want: Option<Base>,
-    to: TypeName,
-    over_malloc: bool,
-    kind: Option<Kind>,
-) -> Shape
+pub fn cast_shape(want: Option<Base>, to: TypeName, over_malloc: bool, kind: Option<Kind>) -> Shape
     ensures { result ≡ calls.cast_shape want to over_malloc kind }
 {
     if to.pointer {

@@ -13,7 +13,9 @@ ghost use Rattle.c_types.specs.Typed as typed;
 use crate::call_nodes::{
     ByRow, Every, free_call, malloc_call, mpi_call, no_call, own_call, own_params, printf_call,
 };
-use crate::calls::{Callable, callee_of, cast_want, is_malloc, meaning, or_typed, side_of, special, wanted};
+use crate::calls::{
+    Callable, callee_of, cast_want, is_malloc, meaning, or_typed, side_of, special, wanted,
+};
 use crate::constants::size_of;
 use crate::kinds::{Given, Kind};
 use crate::making::{converted, name_value, undefined};
@@ -42,12 +44,7 @@ fn right_want(names: &Names, sign: Option<Binary>, left: &Expr, kind: Option<Kin
 /// What is found of an expression. `want` is the element of the pointer that a malloc just there would
 /// be for, if there is one.
 #[cycle(look)]
-pub fn look(
-    alloc: Global,
-    names: &Names,
-    want: Option<Base>,
-    e: &Expr,
-) -> Result<Looked, Memory>
+pub fn look(alloc: Global, names: &Names, want: Option<Base>, e: &Expr) -> Result<Looked, Memory>
     ensures kind { IfOk result (λ r. r.kind ≡ expressions.kind_of names.now want (expr_of e.now)) }
     ensures first { IfOk result (λ r. fault r.made ≡ first_of (expressions.outline names.now want (expr_of e.now))) }
     ensures made { IfOk result (λ r. Makes r.made (typed.typed names.now want (expr_of e.now))) }
@@ -60,7 +57,11 @@ pub fn look(
         }
         Expr::Number(at, value, is_long) => {
             let number = program::Expr::Constant(Word::Int(*value));
-            Ok(leaf(Shape::Operand(OperandShape::Number(*is_long)), at.line, number))
+            Ok(leaf(
+                Shape::Operand(OperandShape::Number(*is_long)),
+                at.line,
+                number,
+            ))
         }
         Expr::Text(at, _) => Ok(leaf(Shape::Operand(OperandShape::Text), at.line, undefined())),
         Expr::SizeOf(at, base) => {

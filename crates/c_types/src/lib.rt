@@ -4,9 +4,9 @@
 mod addresses;
 mod agreement;
 mod arguments;
+mod branches;
 mod call_nodes;
 mod calls;
-mod branches;
 mod constants;
 mod declarations;
 mod directives;

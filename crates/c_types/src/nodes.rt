@@ -103,13 +103,7 @@ pub fn step(line: u32, change: Change, before: bool, side: Left, x: Looked) -> L
 }
 
 /// A sign before what was found.
-pub fn unary(
-    alloc: Global,
-    line: u32,
-    sign: Unary,
-    side: Left,
-    x: Looked,
-) -> Result<Looked, Memory>
+pub fn unary(alloc: Global, line: u32, sign: Unary, side: Left, x: Looked) -> Result<Looked, Memory>
     ensures kind { IfOk result (λ r. r.kind ≡ rules.kind (calls.unary_shape sign side x.kind)) }
     ensures first { IfOk result (λ r. fault r.made
         ≡ blame (rules.rule (calls.unary_shape sign side x.kind)) line (fault x.made)) }
@@ -228,7 +222,7 @@ pub fn choice(
     ensures kind { IfOk result (λ r. r.kind ≡ rules.kind (Operator (operator.Chosen test.kind x.kind y.kind))) }
     ensures first { IfOk result (λ r. fault r.made
         ≡ blame (rules.rule (Operator (operator.Chosen test.kind x.kind y.kind))) line
-            (first_some (fault test.made) (first_some (fault x.made) (fault y.made)))) }
+        (first_some (fault test.made) (first_some (fault x.made) (fault y.made)))) }
     ensures made { IfOk result (λ r. (t a b : program.Expr) → Makes test.made t → Makes x.made a → Makes y.made b →
         Makes r.made (program.Choice t a b)) }
 {
@@ -254,12 +248,7 @@ pub fn choice(
 }
 
 /// What the rules read of an assignment, by its sign where it is a computing one.
-pub fn assigned_shape(
-    sign: Option<Binary>,
-    side: Left,
-    a: Option<Kind>,
-    b: Option<Kind>,
-) -> Shape
+pub fn assigned_shape(sign: Option<Binary>, side: Left, a: Option<Kind>, b: Option<Kind>) -> Shape
     ensures { result ≡ calls.assigned_shape sign side a b }
 {
     match sign {

@@ -107,7 +107,7 @@ look_every-loop-i-preserved t c = record {
   kinds = kinds_on c.args.names.now _ _ c.index-arguments-i.result _ _ _ _ c.loop-i-test.true c.index-arguments-i.is c.in_ok-push.ensures.items c.in_ok-x.ensures.kind c.loop-i.invariant.kinds;
   first = first_on c.args.names.now _ _ c.index-arguments-i.result _ _ _ _ c.loop-i-test.true c.index-arguments-i.is c.in_ok-made.ensures.refused c.in_ok-x.ensures.first c.loop-i.invariant.first;
   made = made_on c.args.names.now c.args.arguments.now c.loop-i.i c.args.from c.index-arguments-i.result c.args.params.now c.loop-i.made c.in_ok-made.made c.in_ok-x.x.made c.param_at.result c.in_ok-x.x.kind _
-    c.loop-i-test.true c.index-arguments-i.is c.loop-i.invariant.from c.param_at.ensures c.in_ok-x.ensures.kind c.in_ok-x.ensures.made c.in_ok-made.ensures.made c.loop-i.invariant.made;
+      c.loop-i-test.true c.index-arguments-i.is c.loop-i.invariant.from c.param_at.ensures c.in_ok-x.ensures.kind c.in_ok-x.ensures.made c.in_ok-made.ensures.made c.loop-i.invariant.made;
 }
 
 pub look_every-returns-clause-made : goal.look_every-returns-clause-made
@@ -116,16 +116,16 @@ look_every-returns-clause-made t c =
 
 pub look_row-loop-i-preserved : goal.look_row-loop-i-preserved
 look_row-loop-i-preserved t c =
-  let element = same_element c.args.arguments.now c.loop-i.i c.index-arguments-i.result c.index-arguments-i-in-loop-i.result c.loop-i-test.true c.index-arguments-i.is c.index-arguments-i-in-loop-i.is in
-  let is_special = special_of c.args.names.now.scopes c.index-arguments-i.result c.index-arguments-i-in-loop-i.result c.special-special.result element c.special-special.ensures in
-  record {
-  givens = givens_on c.args.names.now _ _ c.index-arguments-i.result _ _ c.special-special.result c.in_ok-x.x.kind c.or_typed.result _ c.loop-i-test.true c.index-arguments-i.is c.in_ok-push.ensures.items
-    c.or_typed.ensures is_special c.in_ok-x.ensures.kind c.loop-i.invariant.givens;
-  first = row_first_on c.args.names.now _ _ c.index-arguments-i.result c.special-special.result _ _ _ _ c.loop-i-test.true c.index-arguments-i.is c.in_ok-made.ensures.refused is_special
-    c.in_ok-x.ensures.first c.loop-i.invariant.first;
-  made = row_made_on c.args.names.now c.args.arguments.now c.loop-i.i c.index-arguments-i.result c.args.row.now c.loop-i.made c.in_ok-made.made c.in_ok-x.x.made c.special-special.result c.row_due.result c.in_ok-x.x.kind _
-    c.loop-i-test.true c.index-arguments-i.is is_special c.row_due.ensures c.in_ok-x.ensures.kind c.in_ok-x.ensures.made c.in_ok-made.ensures.made c.loop-i.invariant.made;
-}
+    let element = same_element c.args.arguments.now c.loop-i.i c.index-arguments-i.result c.index-arguments-i-in-loop-i.result c.loop-i-test.true c.index-arguments-i.is c.index-arguments-i-in-loop-i.is in
+    let is_special = special_of c.args.names.now.scopes c.index-arguments-i.result c.index-arguments-i-in-loop-i.result c.special-special.result element c.special-special.ensures in
+    record {
+      givens = givens_on c.args.names.now _ _ c.index-arguments-i.result _ _ c.special-special.result c.in_ok-x.x.kind c.or_typed.result _ c.loop-i-test.true c.index-arguments-i.is c.in_ok-push.ensures.items
+          c.or_typed.ensures is_special c.in_ok-x.ensures.kind c.loop-i.invariant.givens;
+      first = row_first_on c.args.names.now _ _ c.index-arguments-i.result c.special-special.result _ _ _ _ c.loop-i-test.true c.index-arguments-i.is c.in_ok-made.ensures.refused is_special
+          c.in_ok-x.ensures.first c.loop-i.invariant.first;
+      made = row_made_on c.args.names.now c.args.arguments.now c.loop-i.i c.index-arguments-i.result c.args.row.now c.loop-i.made c.in_ok-made.made c.in_ok-x.x.made c.special-special.result c.row_due.result c.in_ok-x.x.kind _
+          c.loop-i-test.true c.index-arguments-i.is is_special c.row_due.ensures c.in_ok-x.ensures.kind c.in_ok-x.ensures.made c.in_ok-made.ensures.made c.loop-i.invariant.made;
+    }
 
 pub look_row-returns-clause-made : goal.look_row-returns-clause-made
 look_row-returns-clause-made t c =
