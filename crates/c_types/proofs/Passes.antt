@@ -27,6 +27,7 @@ use Rattle.c_types.specs.declared.refusals.TypeRefusal.{TypeRefusal}
 use Rattle.c_types.specs.Env.{Env, first_some}
 use Rattle.c_types.specs.Nodes.{Outline, first_of}
 use Rattle.c_types.specs.Outcomes.{fault, Appends}
+use Rattle.c_types.specs.Answers.{Makes}
 use Rattle.c_types.specs.Typed.{typed}
 use Rattle.c_types.specs.Statements.{onto, after, after_all, escapes, escapes_all, escapes_both, stmt_outline, stmts_outline, stmt_made, stmts_made, items_of, declared_in, single_kind, levels_of, with_construct, with_single}
 
@@ -224,3 +225,8 @@ if_else_done s env at test b o bn on n1 looked body other (Ok (Ok v)) is eb eo e
     ∙ ap (λ y. p.If at.line (typed env None (syntax.expr_of test)) (stmt_made env (syntax.stmt_of y)) (stmt_made (after env (syntax.stmt_of y)) (syntax.stmt_of on))) eb
     ∙ ap (λ y. p.If at.line (typed env None (syntax.expr_of test)) (stmt_made env (syntax.stmt_of b.value)) (stmt_made (after env (syntax.stmt_of b.value)) (syntax.stmt_of y))) eo
     ∙ sym (ap (λ y. stmt_made env (syntax.stmt_of y)) is)
+
+-- an expression that is made, as the clauses on statements speak of it
+pub made_if : (r : Result made.Expr TypeRefusal) (wanted : p.Expr) → Makes r wanted → IfOk r (λ v. expr_of v ≡ wanted)
+made_if (Ok v) wanted is = is
+made_if (Err refusal) wanted is = tt
