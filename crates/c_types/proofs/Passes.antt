@@ -1,6 +1,7 @@
 -- The items of blocks: what a pass has made of them so far, and what it makes of the next.
 use Rattle.std.proofs.Common.{◌≡◌, ℕ, ◌+◌, ◌<◌, Bool, true, false, List, [], ◌∷◌, ◌++◌, ◌||◌, refl, sym, subst, ap, ◌∙◌, Vec, Global, Option, None, Some, Result, Ok, Err, IfOk, length, drop, get_or, map}
 use Rattle.std.specs.Borrow.{Bor}
+use Rattle.std.specs.Prelude.{Box}
 use Rattle.std.proofs.lemmas.List.{drop_more}
 use Rattle.std.specs.Prelude.{option_map}
 use Rattle.mpc_base.specs.declared.failures.Memory.{Memory}
@@ -9,11 +10,13 @@ use Rattle.c_tree.specs.declared.program.HlsKind.{HlsKind}
 use Rattle.c_tree.specs.declared.syntax.Declaration.{Declaration}
 use Rattle.c_types.specs.Declarations.{declared, declaration_outline, declaration_made}
 use Rattle.c_tree.specs.declared.program.Stmt.{Stmt}
+use Rattle.c_tree.specs.declared.program.Expr as made
+use Rattle.c_tree.specs.declared.syntax.Expr.{Expr}
 use Rattle.c_tree.specs.declared.syntax.Place.{Place}
 use Rattle.c_tree.specs.declared.syntax.Stmt as source
 use Rattle.c_tree.specs.declared.syntax.Stmt.TheVariants as written
 use Rattle.c_tree.specs.declared.program.Ending.{Ending}
-use Rattle.c_tree.specs.ProgramOf.{stmt_of, stmts_of, function_of}
+use Rattle.c_tree.specs.ProgramOf.{expr_of, stmt_of, stmts_of, function_of}
 use Rattle.c_tree.specs.Programs as p
 use Rattle.c_tree.specs.SyntaxOf as syntax
 use Rattle.c_tree.specs.Syntax as x
@@ -24,6 +27,8 @@ use Rattle.c_types.specs.declared.refusals.TypeRefusal.{TypeRefusal}
 use Rattle.c_types.specs.Env.{Env, first_some}
 use Rattle.c_types.specs.Nodes.{Outline, first_of}
 use Rattle.c_types.specs.Outcomes.{fault, Appends}
+use Rattle.c_types.specs.Answers.{Makes}
+use Rattle.c_types.specs.Typed.{typed}
 use Rattle.c_types.specs.Statements.{onto, after, after_all, escapes, escapes_all, escapes_both, stmt_outline, stmts_outline, stmt_made, stmts_made, items_of, declared_in, single_kind, levels_of, with_construct, with_single}
 
 pub onto_done : (items : List Stmt) → stmts_of items ≡ onto (map stmt_of items) p.Done
@@ -206,3 +211,22 @@ single_done line env n1 names nowait body kind found number made (Ok (Err refusa
 single_done line env n1 names nowait body kind found number made (Ok (Ok v)) ek ef e1 en ex one =
     let behind : n1 ≡ with_single names nowait env = e1 ∙ ap (λ k. with_construct k found env) ek ∙ ap (λ f. with_construct (single_kind nowait) f env) ef in
     one (stmt_made n1 body) ex ∙ ap (λ n. p.Single line n nowait (stmt_made n1 body)) en ∙ ap (λ e. p.Single line (length env.constructs) nowait (stmt_made e body)) behind
+
+pub if_else_done : (s : source.Stmt) (env : Env) (at : Place) (test : Expr) (b o : Box source.Stmt Global) (bn on : source.Stmt) (n1 : Env) (looked : Result made.Expr TypeRefusal) (body other : Result Stmt TypeRefusal)
+    (result : Result (Result Stmt TypeRefusal) Memory) → s ≡ written.IfElse at test b o → bn ≡ b.value → on ≡ o.value → n1 ≡ after env (syntax.stmt_of bn)
+    → IfOk looked (λ v. expr_of v ≡ typed env None (syntax.expr_of test)) → IfOk body (λ m. stmt_of m ≡ stmt_made env (syntax.stmt_of bn)) → IfOk other (λ m. stmt_of m ≡ stmt_made n1 (syntax.stmt_of on))
+    → ((t : p.Expr) (m n : p.Stmt) → IfOk looked (λ v. expr_of v ≡ t) → IfOk body (λ v. stmt_of v ≡ m) → IfOk other (λ v. stmt_of v ≡ n) → IfOk result (λ r. IfOk r (λ v. stmt_of v ≡ p.If at.line t m n)))
+    → IfOk result (λ r. IfOk r (λ v. stmt_of v ≡ stmt_made env (syntax.stmt_of s)))
+if_else_done s env at test b o bn on n1 looked body other (Err memory) is eb eo en et em ex made = tt
+if_else_done s env at test b o bn on n1 looked body other (Ok (Err refusal)) is eb eo en et em ex made = tt
+if_else_done s env at test b o bn on n1 looked body other (Ok (Ok v)) is eb eo en et em ex made =
+    made (typed env None (syntax.expr_of test)) (stmt_made env (syntax.stmt_of bn)) (stmt_made n1 (syntax.stmt_of on)) et em ex
+    ∙ ap (λ e. p.If at.line (typed env None (syntax.expr_of test)) (stmt_made env (syntax.stmt_of bn)) (stmt_made e (syntax.stmt_of on))) en
+    ∙ ap (λ y. p.If at.line (typed env None (syntax.expr_of test)) (stmt_made env (syntax.stmt_of y)) (stmt_made (after env (syntax.stmt_of y)) (syntax.stmt_of on))) eb
+    ∙ ap (λ y. p.If at.line (typed env None (syntax.expr_of test)) (stmt_made env (syntax.stmt_of b.value)) (stmt_made (after env (syntax.stmt_of b.value)) (syntax.stmt_of y))) eo
+    ∙ sym (ap (λ y. stmt_made env (syntax.stmt_of y)) is)
+
+-- an expression that is made, as the clauses on statements speak of it
+pub made_if : (r : Result made.Expr TypeRefusal) (wanted : p.Expr) → Makes r wanted → IfOk r (λ v. expr_of v ≡ wanted)
+made_if (Ok v) wanted is = is
+made_if (Err refusal) wanted is = tt

@@ -70,26 +70,6 @@ fn pass_if(
 }
 
 #[cycle(pass)]
-fn pass_if_else(
-    alloc: Global,
-    names: &mut Names,
-    in_loop: bool,
-    at: Place,
-    body: &syntax::Stmt,
-    other: &syntax::Stmt,
-    test: &Expr,
-) -> Result<Result<Stmt, TypeRefusal>, Memory>
-    ensures names { OnOk result (names.new ≡ statements.after names.old (x.IfElse at (expr_of test.now) (stmt_of body.now) (stmt_of other.now))) }
-    ensures first { IfOk result (λ r. fault r ≡ first_of (statements.stmt_outline names.old in_loop (x.IfElse at (expr_of test.now) (stmt_of body.now) (stmt_of other.now)))) }
-    ensures made { IfOk result (λ r. IfOk r (λ made. program.stmt_of made ≡ statements.stmt_made names.old (x.IfElse at (expr_of test.now) (stmt_of body.now) (stmt_of other.now)))) }
-{
-    let looked = look(alloc, names, None, test)?;
-    let body = pass(alloc, names, in_loop, body)?;
-    let other = pass(alloc, names, in_loop, other)?;
-    if_else_made(alloc, at, looked.kind, looked.made, body, other)
-}
-
-#[cycle(pass)]
 fn pass_while(
     alloc: Global,
     names: &mut Names,
@@ -193,7 +173,10 @@ fn pass(
         }
         syntax::Stmt::If(at, test, body) => pass_if(alloc, names, in_loop, *at, body, test),
         syntax::Stmt::IfElse(at, test, body, other) => {
-            pass_if_else(alloc, names, in_loop, *at, body, other, test)
+            let looked = look(alloc, names, None, test)?;
+            let body = pass(alloc, names, in_loop, body)?;
+            let other = pass(alloc, names, in_loop, other)?;
+            if_else_made(alloc, *at, looked.kind, looked.made, body, other)
         }
         syntax::Stmt::While(at, test, body) => pass_while(alloc, names, in_loop, *at, body, test),
         syntax::Stmt::DoWhile(at, body, test) => pass_do(alloc, names, in_loop, *at, body, test),

@@ -3,7 +3,7 @@ use Rattle.c_tree.specs.ProgramOf.{expr_of, maybe_of, stmt_of}
 use Rattle.c_tree.specs.SyntaxOf as syntax
 use Rattle.c_types.specs.Statements.{after_head, head_made, levels_of, maybe_typed, stmt_made}
 use Rattle.c_types.specs.Typed.{typed}
-use Rattle.c_types.proofs.Passes.{at_env, block_names, block_first, block_made, names_on, first_on, made_on, declared_names, declared_first, declared_made, other_made, single_done}
+use Rattle.c_types.proofs.Passes.{at_env, block_names, block_first, block_made, names_on, first_on, made_on, declared_names, declared_first, declared_made, if_else_done, made_if, other_made, single_done}
 use Rattle.c_types.proofs.statements.+pass.Goals as goal
 
 pub pass-returns-in_ok-made-in-Block-clause-names : goal.pass-returns-in_ok-made-in-Block-clause-names
@@ -23,20 +23,20 @@ pass_items-loop-s-preserved t c = (
 )
 
 pub pass_if-returns-clause-made : goal.pass_if-returns-clause-made
-pass_if-returns-clause-made t c = c.if_made.ensures.made _ _ c.in_ok-looked.ensures.made c.in_ok-body.ensures.made
+pass_if-returns-clause-made t c = c.if_made.ensures.made _ _ (made_if _ _ c.in_ok-looked.ensures.made) c.in_ok-body.ensures.made
 
-pub pass_if_else-returns-clause-made : goal.pass_if_else-returns-clause-made
-pass_if_else-returns-clause-made t c =
-    c.if_else_made.ensures.made _ _ _ c.in_ok-looked.ensures.made c.in_ok-body.ensures.made
-    (at_env (λ e. IfOk c.in_ok-other.other (λ m. stmt_of m ≡ stmt_made e (syntax.stmt_of c.args.other.now))) _ _ c.in_ok-body.ensures.names c.in_ok-other.ensures.made)
+pub pass-returns-in_ok-other-in-IfElse-clause-made : goal.pass-returns-in_ok-other-in-IfElse-clause-made
+pass-returns-in_ok-other-in-IfElse-clause-made t c =
+    if_else_done c.args.s.now c.args.names.now c.in-IfElse.at c.in-IfElse.test c.in-IfElse.body c.in-IfElse.other _ _ _ _ _ _ _ c.in-IfElse.is c.deref-in-IfElse.ensures c.deref-in-IfElse-2.ensures
+    c.in_ok-body-in-IfElse.ensures.names (made_if _ _ c.in_ok-looked-in-IfElse.ensures.made) c.in_ok-body-in-IfElse.ensures.made c.in_ok-other-in-IfElse.ensures.made c.if_else_made.ensures.made
 
 pub pass_while-returns-clause-made : goal.pass_while-returns-clause-made
-pass_while-returns-clause-made t c = c.while_made.ensures.made _ _ c.in_ok-looked.ensures.made c.in_ok-body.ensures.made
+pass_while-returns-clause-made t c = c.while_made.ensures.made _ _ (made_if _ _ c.in_ok-looked.ensures.made) c.in_ok-body.ensures.made
 
 pub pass_do-returns-clause-made : goal.pass_do-returns-clause-made
 pass_do-returns-clause-made t c =
     c.do_made.ensures.made _ _ c.in_ok-body.ensures.made
-    (at_env (λ e. IfOk c.in_ok-looked.looked.made (λ v. expr_of v ≡ typed e None (syntax.expr_of c.args.test.now))) _ _ c.in_ok-body.ensures.names c.in_ok-looked.ensures.made)
+    (at_env (λ e. IfOk c.in_ok-looked.looked.made (λ v. expr_of v ≡ typed e None (syntax.expr_of c.args.test.now))) _ _ c.in_ok-body.ensures.names (made_if _ _ c.in_ok-looked.ensures.made))
 
 pub pass_for-returns-clause-made : goal.pass_for-returns-clause-made
 pass_for-returns-clause-made t c =
