@@ -1,7 +1,6 @@
 pub mod Numbers
 pub mod Arithmetic
 pub mod Asking
-pub mod Meaning
 pub mod Syntax
 pub mod SyntaxOf
 pub mod Programs

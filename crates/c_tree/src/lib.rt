@@ -1,6 +1,6 @@
 //! The tree of a program, with types and numbered variables, and what a task that runs it asks.
 //!
-//! The meaning stands in specs/Meaning.antt: `next` tells, for a program and the answers that a task
+//! The meaning stands in specs/Next.antt: `next_of` tells, for a program and the answers that a task
 //! has had so far, which call the task asks next and at which line.
 #![tactic(auto)]
 
@@ -13,12 +13,10 @@ pub mod program;
 mod reading;
 pub mod scripts;
 pub mod syntax;
-mod trees;
 mod variables;
 
 pub use laws::next_laws;
 pub use names::{Identifier, Identifiers};
-pub use trees::{Expr, Function, Program, Stmt};
 pub use variables::Globals;
 
 #[cfg(test)]

@@ -1,8 +1,8 @@
 //! The variables of a program, in order of their numbers, and MPI functions by their names.
 
 use crate::mpi::{MPI_FUNCTIONS, MpiFunction};
-use crate::program::{self, Construct, Constructs, HlsKind};
-use crate::{Function, Globals, Program};
+use crate::Globals;
+use crate::program::{Construct, Constructs, HlsKind, Program};
 use mpc_base::{Level, StaticVar, Word, Words};
 use std::test::*;
 
@@ -21,13 +21,6 @@ fn globals_hold_their_variables(rt: HostRuntime) -> Result<(), Fail> {
     };
     let variables = Globals::of(vec![in alloc; plain, shared]?);
     assert_eq!(rt; variables.as_slice().len(), 2);
-    let program = Program {
-        variables,
-        main: Function {
-            body: Vec::new(alloc),
-            end_line: 3,
-        },
-    };
     for (number, (len, level, first)) in [
         (1, None, [Word::Int(7)].as_slice()),
         (2000, Some(Level::Numa), [].as_slice()),
@@ -35,14 +28,14 @@ fn globals_hold_their_variables(rt: HostRuntime) -> Result<(), Fail> {
     .iter()
     .enumerate()
     {
-        let Some(variable) = program.globals().get(number) else {
+        let Some(variable) = variables.as_slice().get(number) else {
             panic!(rt; "no variable {number}");
         };
         assert_eq!(rt; variable.len, *len);
         assert_eq!(rt; variable.level, *level);
         assert_eq!(rt; variable.first.as_slice(), *first);
     }
-    assert_eq!(rt; program.variables.into_vec().len(), 2);
+    assert_eq!(rt; variables.into_vec().len(), 2);
     Ok(())
 }
 
@@ -58,7 +51,7 @@ fn a_typed_program_tells_its_parts(rt: HostRuntime) -> Result<(), Fail> {
         kind: HlsKind::Barrier,
         level: Level::Core,
     };
-    let program = program::Program {
+    let program = Program {
         variables: Globals::of(vec![in alloc; shared]?),
         functions: Vec::new(alloc),
         main: 0,
