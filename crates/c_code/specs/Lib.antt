@@ -1,2 +1,5 @@
+pub mod FlatCode
 pub mod Machine
 pub mod Demands
+pub mod Following
+pub mod Laws

@@ -25,7 +25,7 @@ use Rattle.c_tree.specs.Asking.{word_of}
 use Rattle.c_code.specs.declared.instr.Instr.{Instr}
 use Rattle.c_code.specs.declared.instr.Instr.TheVariants as i
 use Rattle.c_code.specs.declared.code.Entry.{Entry}
-use Rattle.c_code.specs.declared.code.Code.{Code}
+use Rattle.c_code.specs.FlatCode.{FlatCode}
 
 -- Where a call goes on when it returns: the place, the slots, and the line of the call that the caller itself was
 -- called by.
@@ -135,7 +135,7 @@ abbrev pub arguments_on : ℕ → List Word → List Word
 arguments_on count stack = reverse (take count stack)
 
 -- what an instruction does; an MPI function's begins its script
-unfoldable pub step_of : Code → Instr → Mach → Stepped
+unfoldable pub step_of : FlatCode → Instr → Mach → Stepped
 step_of code (i.Push w) m = next m (w ∷ m.stack)
 step_of code i.Pop m = on_top m.stack (λ w ws. next m ws)
 step_of code i.Duplicate m = on_top m.stack (λ w ws. next m (w ∷ w ∷ ws))
@@ -256,7 +256,7 @@ abbrev pub script_resume : Mach → Scripting → Answer → List ScriptStep →
 script_resume m s answer [] = Goes m
 script_resume m s answer (t ∷ rest) = Goes (record m { script = Some (record s { steps = rest; found = found_behind t s.found answer }) })
 
-abbrev pub fetched : Code → Mach → Option Instr → Stepped
+abbrev pub fetched : FlatCode → Mach → Option Instr → Stepped
 fetched code m None = Sticks
 fetched code m (Some instr) = step_of code instr m
 
@@ -265,11 +265,11 @@ fetched_resume m answer None = Goes m
 fetched_resume m answer (Some instr) = resume_of instr m answer
 
 -- one step of the machine
-abbrev pub step : Code → Mach → Option Scripting → Stepped
+abbrev pub step : FlatCode → Mach → Option Scripting → Stepped
 step code m None = fetched code m (slice_get code.instrs m.pc)
 step code m (Some s) = script_step m s s.steps
 
 -- the machine behind an answer
-abbrev pub resume : Code → Mach → Answer → Option Scripting → Behind
+abbrev pub resume : FlatCode → Mach → Answer → Option Scripting → Behind
 resume code m answer None = fetched_resume m answer (slice_get code.instrs m.pc)
 resume code m answer (Some s) = script_resume m s answer s.steps

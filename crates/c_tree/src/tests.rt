@@ -1,7 +1,7 @@
 //! The variables of a program, in order of their numbers, and MPI functions by their names.
 
-use crate::mpi::{MPI_FUNCTIONS, MpiFunction};
 use crate::Globals;
+use crate::mpi::{MPI_FUNCTIONS, MpiFunction};
 use crate::program::{Construct, Constructs, HlsKind, Program};
 use mpc_base::{Level, StaticVar, Word, Words};
 use std::test::*;
