@@ -10,13 +10,13 @@ use Rattle.c_tree.specs.Asking.{Next, State, Step, ◌>>=◌, pure, set}
 use Rattle.c_tree.specs.Evaluation.{value_of_local, load, store, updated, if_holds, scalar_of}
 use Rattle.c_code.specs.declared.instr.Instr.{Instr}
 use Rattle.c_code.specs.declared.instr.Instr.TheVariants as i
-use Rattle.c_code.specs.declared.code.Code.{Code}
+use Rattle.c_code.specs.FlatCode.{FlatCode}
 use Rattle.c_code.specs.Machine.{Frame, step_of}
 use Rattle.c_compile.specs.Compiled.{and_code, or_code, choice_code, step_local, step_store}
 use Rattle.c_compile.proofs.Steps.{at, HasAt, has_front, has_back, To, moved_to, goes}
 use Rattle.c_compile.proofs.Operations.{Runs, Is, Gives, GivesFrom, Unary, Binary, one_ok, two_ok, push_ok, get_ok, set_ok, truth_ok, store_ok, update_ok, peek_ok, unless_ok, skip_ok, pop_ok}
 
-module _ (code : Code) (frames : List Frame) (ln : ℕ) where
+module _ (code : FlatCode) (frames : List Frame) (ln : ℕ) where
   -- a word that is put on the stack at a place
   push_at : (pc : ℕ) (w : Word) (stack : List Word) (s : State) (o : Next) → Is code frames ln pc (i.Push w) → Runs code frames ln (pc + 1) (w ∷ stack) s o → Runs code frames ln pc stack s o
   unfolding step_of

@@ -18,7 +18,7 @@ use Rattle.c_tree.specs.Scripts.{asks_of}
 use Rattle.c_tree.specs.Evaluation.{Calls, eval, eval_all, applied, load, store, updated, offset, number_or_fault, value_of_local, scalar_of}
 use Rattle.c_code.specs.declared.instr.Instr.{Instr}
 use Rattle.c_code.specs.declared.instr.Instr.TheVariants as i
-use Rattle.c_code.specs.declared.code.Code.{Code}
+use Rattle.c_code.specs.FlatCode.{FlatCode}
 use Rattle.c_code.specs.Machine.{Frame, Mach, Asks, Goes, step_of, resume_of, arguments_on, go_next}
 use Rattle.c_compile.specs.Compiled.{expr_code, exprs_code, callee_code, count_of}
 use Rattle.c_compile.proofs.Steps.{at, HasAt, has_front, has_back, To, moved_to, asks_ok}
@@ -28,11 +28,11 @@ use Rattle.c_compile.proofs.Operations.{Runs, Is, Gives, GivesFrom, one_ok, two_
 use Rattle.c_compile.proofs.Choices.{and_ok, or_ok, choice_ok, then_ok, step_local_ok, step_store_ok}
 
 -- A call's instruction does what the call does.
-pub record CallsDo (code : Code) (calls : Calls) (frames : List Frame) (ln : ℕ) : Type 0 where
+pub record CallsDo (code : FlatCode) (calls : Calls) (frames : List Frame) (ln : ℕ) : Type 0 where
   pub call : (number count line pc : ℕ) (args stack : List Word) (s : State) (k : Word → State → Next) → slice_get code.instrs pc ≡ Some (i.Call number count line) → length args ≡ count
       → ((v : Word) (s' : State) → s'.turns ≤ s.turns → Runs code frames ln (pc + 1) (v ∷ stack) s' (k v s')) → Runs code frames ln pc (pushed args stack) s (calls number args line k s)
 
-module _ (code : Code) (frames : List Frame) (ln : ℕ) where
+module _ (code : FlatCode) (frames : List Frame) (ln : ℕ) where
   print_ok : (format : List Piece) (count line pc : ℕ) (args stack : List Word) (s : State) (k : Word → State → Next) → Is code frames ln pc (i.Print (record { format = format; count = count }) line) → length args ≡ count
       → ((v : Word) (s' : State) → s'.turns ≤ s.turns → Runs code frames ln (pc + 1) (v ∷ stack) s' (k v s'))
       → Runs code frames ln pc (pushed args stack) s (ask (call.Print (printed format args)) line (λ a s'. k (Int (number_of width.Int (word_of a))) s') s)

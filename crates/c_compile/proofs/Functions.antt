@@ -24,11 +24,12 @@ use Rattle.c_tree.specs.Next.{calls_of, arguments_of_main, finish, finish_main, 
 use Rattle.c_code.specs.declared.instr.Instr.{Instr}
 use Rattle.c_code.specs.declared.instr.Instr.TheVariants as i
 use Rattle.c_code.specs.declared.code.Entry.{Entry}
-use Rattle.c_code.specs.declared.code.Code.{Code}
+use Rattle.c_code.specs.FlatCode.{FlatCode}
 use Rattle.c_code.specs.Machine.{Frame, Mach, Stepped, Moves, Asks, step_of, resume_of, turned, entered, breaks, arguments_on, depth_limit, fetched, fetched_resume, step, resume}
-use Rattle.c_code.specs.Demands.{exec, behind, Reaches, Demands, begins, main_arguments}
+use Rattle.c_code.specs.Demands.{exec, behind, Reaches, Demands, begins, main_arguments, turn_limit}
 use Rattle.c_compile.specs.Compiled.{Place, drops, inside, outside, ending_code, items_code, params_code, function_code, functions_code, entries_from, params_of}
-use Rattle.c_compile.specs.Correct.{compiled, Behaves}
+use Rattle.c_code.specs.Following.{NeverSticks}
+use Rattle.c_compile.specs.Correct.{compiled, Behaves, HasMain}
 use Rattle.c_compile.proofs.Steps.{at, HasAt, has_front, has_back, To, moved_to, goes, asks_ok, asks_on, faults}
 use Rattle.c_compile.proofs.Arguments.{pushed, taken, dropped}
 use Rattle.c_compile.proofs.Operations.{Runs, Is, push_ok, skip_ok}
@@ -37,7 +38,7 @@ use Rattle.c_compile.proofs.Expressions.{CallsDo}
 use Rattle.c_compile.proofs.Statements.{Exits, Does, fewer, return_ok, dropped_ok}
 use Rattle.c_compile.proofs.Loops.{stmt_ok, item_ok}
 
-module _ (code : Code) (frames : List Frame) (ln : ℕ) where
+module _ (code : FlatCode) (frames : List Frame) (ln : ℕ) where
   missing_ok : (place : Place) (line : ℕ) → Does code frames ln place (i.Missing line ∷ []) (fault fault_of.Uninit line)
   unfolding step_of
   missing_ok place line pc stack s k has x = faults code (at pc stack frames ln s.slots s.turns) (i.Missing line) fault_of.Uninit line s k refl has.0 refl
@@ -92,12 +93,12 @@ module _ (code : Code) (frames : List Frame) (ln : ℕ) where
       dropped_ok code frames ln place slot end (params_code end (suc slot) more (inside slot place) body) (with_params ln end (slot + 1) more mb) inner (pc + 1 + 1 + 1) stack s2 k has.1.1.1
       (subst (λ q. Exits code frames ln place q stack s2.turns k) far (fewer code frames ln place _ stack _ _ k (omega (arith, l1, l2)) x)))))
 
-push_zero : (code : Code) (frames : List Frame) (ln pc : ℕ) (stack : List Word) (s : State) (o : Next) → slice_get code.instrs pc ≡ Some (i.Push (Int (pos 0))) → Runs code frames ln (pc + 1) (Int (pos 0) ∷ stack) s o → Runs code frames ln pc stack s o
+push_zero : (code : FlatCode) (frames : List Frame) (ln pc : ℕ) (stack : List Word) (s : State) (o : Next) → slice_get code.instrs pc ≡ Some (i.Push (Int (pos 0))) → Runs code frames ln (pc + 1) (Int (pos 0) ∷ stack) s o → Runs code frames ln pc stack s o
 unfolding step_of
 push_zero code frames ln pc stack s o h r = goes code (at pc stack frames ln s.slots s.turns) (at (pc + 1) (Int (pos 0) ∷ stack) frames ln s.slots s.turns) (i.Push (Int (pos 0))) s.answers o refl h refl r
 
 -- a return to the caller
-return_to : (code : Code) (f : Frame) (frames : List Frame) (ln line pc : ℕ) (w : Word) (stack : List Word) (s : State) (o : Next) → slice_get code.instrs pc ≡ Some (i.Return line)
+return_to : (code : FlatCode) (f : Frame) (frames : List Frame) (ln line pc : ℕ) (w : Word) (stack : List Word) (s : State) (o : Next) → slice_get code.instrs pc ≡ Some (i.Return line)
     → Runs code frames f.line f.pc (w ∷ stack) (record s { slots = f.slots }) o → Runs code (f ∷ frames) ln pc (w ∷ stack) s o
 unfolding step_of
 return_to code f frames ln line pc w stack s o h r =
@@ -111,7 +112,7 @@ Lines f (Continued l) line = line ≡ f.end_line
 Lines f (Returned l w) line = line ≡ l
 
 -- A function's code does what the function does, and hands its value on to what comes behind its return.
-function_ok : (code : Code) (frames : List Frame) (ln : ℕ) (calls : Calls) → CallsDo code calls frames ln → (f : p.Function) (start : ℕ) (stack : List Word) (s : State) (k : Exit → State → Next) → HasAt code start (function_code f)
+function_ok : (code : FlatCode) (frames : List Frame) (ln : ℕ) (calls : Calls) → CallsDo code calls frames ln → (f : p.Function) (start : ℕ) (stack : List Word) (s : State) (k : Exit → State → Next) → HasAt code start (function_code f)
     → ((exit : Exit) (line pc : ℕ) (s' : State) → s'.turns ≤ s.turns → slice_get code.instrs pc ≡ Some (i.Return line) → Lines f exit line → Runs code frames ln pc (value_of exit ∷ stack) s' (k exit s'))
     → Runs code frames ln start stack s (with_params ln f.end_line 0 f.params (run_body calls f.ending f.end_line f.body) k s)
 function_ok code frames ln calls call_ok f start stack s k has r =
@@ -135,7 +136,7 @@ function_ok code frames ln calls call_ok f start stack s k has r =
         skip_ok code frames ln pc n stack s' o h (moved_to code _ _ stack frames ln s' o e t)
 
 -- where a function's code stands
-stands : (code : Code) (fs : List p.Function) (start n : ℕ) (f : p.Function) → HasAt code start (functions_code fs) → slice_get fs n ≡ Some f
+stands : (code : FlatCode) (fs : List p.Function) (start n : ℕ) (f : p.Function) → HasAt code start (functions_code fs) → slice_get fs n ≡ Some f
     → (e : Entry) × (slice_get (entries_from start fs) n ≡ Some e) × (e.slots ≡ f.slots) × HasAt code e.start (function_code f)
 stands code [] start n f has h = absurd (cc h)
 stands code (g ∷ more) start zero f has h =
@@ -148,7 +149,7 @@ absent [] start n h = refl
 absent (g ∷ more) start zero h = absurd (cc h)
 absent (g ∷ more) start (suc n) h = absent more (start + length (function_code g)) n h
 
-module _ (code : Code) (fs : List p.Function) (entries : code.entries ≡ entries_from 0 fs) (all : HasAt code 0 (functions_code fs)) where
+module _ (code : FlatCode) (fs : List p.Function) (entries : code.entries ≡ entries_from 0 fs) (all : HasAt code 0 (functions_code fs)) where
   -- a call's instruction counts a turn before what it does
   module _ (frames : List Frame) (ln number count line pc : ℕ) (args stack : List Word) (s : State) (h : slice_get code.instrs pc ≡ Some (i.Call number count line)) where
     abbrev here : Mach
@@ -210,7 +211,7 @@ module _ (code : Code) (fs : List p.Function) (entries : code.entries ≡ entrie
   }
 
 -- the whole code stands at its beginning
-has_all : (code : Code) (is before : List Instr) → code.instrs ≡ before ++ is → HasAt code (length before) is
+has_all : (code : FlatCode) (is before : List Instr) → code.instrs ≡ before ++ is → HasAt code (length before) is
 has_all code [] before e = tt
 has_all code (j ∷ is) before e =
     let within : length before < length (before ++ j ∷ is) = omega (arith, length-append before (j ∷ is)) in
@@ -228,14 +229,14 @@ unfolding int_wrap
 zero_is = refl
 
 -- main's return asks the end of main
-finish_ok : (code : Code) (ln line pc : ℕ) (w : Word) (stack : List Word) (s : State) → slice_get code.instrs pc ≡ Some (i.Return line) → Runs code [] ln pc (w ∷ stack) s (finish line (number_of width.Int w) s)
+finish_ok : (code : FlatCode) (ln line pc : ℕ) (w : Word) (stack : List Word) (s : State) → slice_get code.instrs pc ≡ Some (i.Return line) → Runs code [] ln pc (w ∷ stack) s (finish line (number_of width.Int w) s)
 unfolding step_of resume_of
 finish_ok code ln line pc w stack s h =
     let m = at pc (w ∷ stack) [] ln s.slots s.turns in
     asks_on code m (call.Finish (number_of width.Int w)) line s (λ a s'. over s'.answers) (ap (fetched code m) h)
     (λ a more. (zero, ap (λ b. behind (exec code zero) false b more) (ap (fetched_resume m a) h)))
 
-main_ends : (code : Code) (ln line pc : ℕ) (f : p.Function) (exit : Exit) (stack : List Word) (s : State) (given : List Word) → slice_get code.instrs pc ≡ Some (i.Return line) → Lines f exit line → Runs code [] ln pc (value_of exit ∷ stack) s (finish_main f exit (record s { slots = given }))
+main_ends : (code : FlatCode) (ln line pc : ℕ) (f : p.Function) (exit : Exit) (stack : List Word) (s : State) (given : List Word) → slice_get code.instrs pc ≡ Some (i.Return line) → Lines f exit line → Runs code [] ln pc (value_of exit ∷ stack) s (finish_main f exit (record s { slots = given }))
 main_ends code ln line pc f Normal stack s given h lines =
     subst (λ l. Runs code [] ln pc (Int (pos 0) ∷ stack) s (finish l (pos 0) (record s { slots = given }))) lines (subst (λ z. Runs code [] ln pc (Int (pos 0) ∷ stack) s (finish line z (record s { slots = given }))) zero_is (finish_ok code ln line pc (Int (pos 0)) stack s h))
 main_ends code ln line pc f (Broken l) stack s given h lines =
@@ -249,7 +250,7 @@ main_ends code ln line pc f (Returned l w) stack s given h lines =
 pub behaves : (program : p.Program) → Behaves (compiled program) program
 behaves program answers entry e = by_main (slice_get program.functions program.main) refl
   where
-    code : Code
+    code : FlatCode
     code = compiled program
 
     fs : List p.Function
@@ -258,7 +259,7 @@ behaves program answers entry e = by_main (slice_get program.functions program.m
     all : HasAt code 0 (functions_code fs)
     all = has_all code (functions_code fs) [] refl
 
-    by_main : (o : Option p.Function) → slice_get fs program.main ≡ o → Reaches code (begins code entry 10000000) answers (next_in fs o 1023 10000000 answers)
+    by_main : (o : Option p.Function) → slice_get fs program.main ≡ o → Reaches code (begins code entry turn_limit) answers (next_in fs o 1023 10000000 answers)
     by_main None none = absurd (let no_entry = absent fs 0 program.main none in cc (no_entry, e))
     by_main (Some f) some =
         let st = stands code fs 0 program.main f all some in
@@ -270,5 +271,20 @@ behaves program answers entry e = by_main (slice_get program.functions program.m
         (λ exit line pc s' le hr lines. main_ends code 0 line pc f exit [] s' [] hr lines) in
         let slots : slots_of st.0.slots (main_arguments (params_of (slice_get fs program.main))) ≡ slots_of f.slots (arguments_of_main f.params) =
         ap (λ n. slots_of n (main_arguments (params_of (slice_get fs program.main)))) st.2 ∙ ap (λ o. slots_of f.slots (main_arguments (params_of o))) some ∙ ap (slots_of f.slots) (main_is f.params) in
-        subst (λ z. Reaches code (begins code z 10000000) answers (next_in fs (Some f) 1023 10000000 answers)) same
+        subst (λ z. Reaches code (begins code z turn_limit) answers (next_in fs (Some f) 1023 10000000 answers)) same
         (subst (λ given. Reaches code (at st.0.start [] [] 0 given 10000000) answers (next_in fs (Some f) 1023 10000000 answers)) (sym slots) runs)
+
+-- the code of a program with a main never sticks
+pub never_sticks : (program : p.Program) → HasMain program → NeverSticks (compiled program)
+never_sticks program within = by_main (slice_get program.functions program.main) refl
+  where
+    some_at : (fs : List p.Function) (n : ℕ) → n < length fs → slice_get fs n ≡ None → ⊥
+    some_at [] n lt e = omega (arith, lt)
+    some_at (f ∷ fs) zero lt e = absurd (cc e)
+    some_at (f ∷ fs) (suc n) lt e = some_at fs n (omega (arith, lt)) e
+
+    by_main : (o : Option p.Function) → slice_get program.functions program.main ≡ o → NeverSticks (compiled program)
+    by_main None none = absurd (some_at program.functions program.main within none)
+    by_main (Some f) some =
+        let st = stands (compiled program) program.functions 0 program.main f (has_all (compiled program) (functions_code program.functions) [] refl) some in
+        record { entry = st.0; main = st.1; demands = λ answers. (next_of program answers, behaves program answers st.0 st.1) }

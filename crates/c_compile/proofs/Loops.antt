@@ -15,7 +15,7 @@ use Rattle.c_tree.specs.Evaluation.{Calls, eval, if_holds}
 use Rattle.c_tree.specs.Execution.{Exit, Normal, Broken, Continued, Returned, then, behind_body, test_of, step_of, loop, loop_from, do_loop, do_loop_from, in_way, way_of, returned, item, make, exec, run}
 use Rattle.c_code.specs.declared.instr.Instr.{Instr}
 use Rattle.c_code.specs.declared.instr.Instr.TheVariants as i
-use Rattle.c_code.specs.declared.code.Code.{Code}
+use Rattle.c_code.specs.FlatCode.{FlatCode}
 use Rattle.c_code.specs.Machine.{Frame, Mach, Behind, Goes, Moves, resume_of, way_next}
 use Rattle.c_code.specs.Machine as machine
 use Rattle.c_compile.specs.Compiled.{expr_code, Place, drops, before, inside, body_of, test_code, step_code, loop_code, do_code, if_code, single_code, return_code, no_ending, item_code, stmt_code, items_code}
@@ -25,7 +25,7 @@ use Rattle.c_compile.proofs.Turns.{tick_ok, tick_fails, again_ok, again_fails, a
 use Rattle.c_compile.proofs.Expressions.{CallsDo, expr_ok}
 use Rattle.c_compile.proofs.Statements.{Exits, Does, GivesHere, Leaves, fewer, pop_behind, eval_ok, seq_ok, block_ok, if_ok, break_ok, continue_ok, return_ok}
 
-module _ (code : Code) (frames : List Frame) (ln : ℕ) where
+module _ (code : FlatCode) (frames : List Frame) (ln : ℕ) where
   -- ---- a loop whose condition stands before its body
   module _ (place : Place) (line : ℕ) (t st b : List Instr) (mt ms : Step Word) (mb : Step Exit)
       (gt : GivesHere code frames ln t mt) (gs : Leaves code frames ln st ms) (gb : Does code frames ln (body_of (length st + length t + 1) 0 place) b mb)

@@ -21,11 +21,11 @@ use Rattle.c_tree.specs.Asking.{Next, State, Step, ◌>>=◌, pure, ask, fault, 
 use Rattle.c_tree.specs.Evaluation.{known, value_of_local, number_or_fault, word_or_fault, load, store, updated, narrowed, offset, if_holds}
 use Rattle.c_code.specs.declared.instr.Instr.{Instr}
 use Rattle.c_code.specs.declared.instr.Instr.TheVariants as i
-use Rattle.c_code.specs.declared.code.Code.{Code}
+use Rattle.c_code.specs.FlatCode.{FlatCode}
 use Rattle.c_code.specs.Machine.{Frame, Mach, Moves, Asks, step_of, resume_of, next, number_next, word_next, known_next, updated_next, Goes}
 use Rattle.c_compile.proofs.Steps.{at, HasAt, has_front, has_back, To, moved_to, goes, asks_ok, faults}
 
-module _ (code : Code) (frames : List Frame) (ln : ℕ) where
+module _ (code : FlatCode) (frames : List Frame) (ln : ℕ) where
   abbrev pub Runs : ℕ → List Word → State → Next → Type 0
   Runs pc stack s o = To code pc stack frames ln s o
 

@@ -12,13 +12,13 @@ use Rattle.c_tree.specs.MpiScripts.{steps_of, each_of, last_of}
 use Rattle.c_tree.specs.Asking.{Next, State, Step}
 use Rattle.c_tree.specs.Scripts.{Found, nothing_found, Wanted, Wants, Skips, Breaks, wanted, found_behind, number_at, ends_run, over, take_step, take_steps, take_each, take_requests, asks_of}
 use Rattle.c_code.specs.declared.instr.Instr.TheVariants as i
-use Rattle.c_code.specs.declared.code.Code.{Code}
+use Rattle.c_code.specs.FlatCode.{FlatCode}
 use Rattle.c_code.specs.Machine.{Frame, Mach, Scripting, Phase, First, Requests, Last, Moves, Asks, step, step_of, resume, script_wants, behind_first, part_behind, arguments_on}
 use Rattle.c_code.specs.Demands.{exec, behind, Reaches}
 use Rattle.c_compile.proofs.Steps.{at, To, goes, goes_on, asks_on, fails_on}
 use Rattle.c_compile.proofs.Arguments.{pushed, taken, dropped}
 
-module _ (code : Code) (frames : List Frame) (ln pc : ℕ) (stack : List Word) (mpi : MpiCall) (arguments : List Word) (line : ℕ) where
+module _ (code : FlatCode) (frames : List Frame) (ln pc : ℕ) (stack : List Word) (mpi : MpiCall) (arguments : List Word) (line : ℕ) where
   scripting : Phase → List ScriptStep → ℕ → Found → Scripting
   scripting phase steps index found = record { mpi = mpi; arguments = arguments; line = line; phase = phase; steps = steps; index = index; found = found }
 
@@ -110,7 +110,7 @@ module _ (code : Code) (frames : List Frame) (ln pc : ℕ) (stack : List Word) (
       (each_of mpi.function) (number_at arguments 0) refl refl)
 
 -- An MPI function's instruction asks what the function asks of the words that were put on the stack.
-pub mpi_ok : (code : Code) (frames : List Frame) (ln pc : ℕ) (mpi : MpiCall) (count line : ℕ) (args stack : List Word) (s : State) (k : Word → State → Next) → slice_get code.instrs pc ≡ Some (i.Mpi mpi count line) → length args ≡ count
+pub mpi_ok : (code : FlatCode) (frames : List Frame) (ln pc : ℕ) (mpi : MpiCall) (count line : ℕ) (args stack : List Word) (s : State) (k : Word → State → Next) → slice_get code.instrs pc ≡ Some (i.Mpi mpi count line) → length args ≡ count
     → ((answers : List Answer) → Reaches code (at (pc + 1) (Int (pos 0) ∷ stack) frames ln s.slots s.turns) answers (k (Int (pos 0)) (record s { answers = answers })))
     → To code pc (pushed args stack) frames ln s (asks_of mpi args line (λ found s'. k (Int (pos 0)) s') s)
 unfolding step_of

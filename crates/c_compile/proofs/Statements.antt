@@ -15,7 +15,7 @@ use Rattle.c_tree.specs.Evaluation.{Calls, eval, if_holds}
 use Rattle.c_tree.specs.Execution.{Exit, Normal, Broken, Continued, Returned, then, behind_body, drop_line, release, make, test_of, step_of, loop, loop_from, do_loop, do_loop_from, in_way, way_of, returned, item, exec, run}
 use Rattle.c_code.specs.declared.instr.Instr.{Instr}
 use Rattle.c_code.specs.declared.instr.Instr.TheVariants as i
-use Rattle.c_code.specs.declared.code.Code.{Code}
+use Rattle.c_code.specs.FlatCode.{FlatCode}
 use Rattle.c_code.specs.Machine.{Frame, Mach, Goes, Moves, resume_of, way_next}
 use Rattle.c_code.specs.Machine as machine
 use Rattle.c_compile.specs.Compiled.{expr_code, Place, drops, before, inside, body_of, test_code, step_code, loop_code, do_code, if_code, single_code, return_code, no_ending, item_code, stmt_code, items_code}
@@ -24,7 +24,7 @@ use Rattle.c_compile.proofs.Operations.{Runs, Is, Gives, push_ok, unless_ok, ski
 use Rattle.c_compile.proofs.Turns.{tick_ok, again_ok, again_fails, again_ends, release_ok, make_ok}
 use Rattle.c_compile.proofs.Expressions.{CallsDo, expr_ok}
 
-module _ (code : Code) (frames : List Frame) (ln : ℕ) where
+module _ (code : FlatCode) (frames : List Frame) (ln : ℕ) where
   abbrev Has : ℕ → List Instr → Type 0
   Has pc c = HasAt code pc c
 

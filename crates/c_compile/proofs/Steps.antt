@@ -9,7 +9,7 @@ use Rattle.mpc_base.specs.declared.answers.Answer.{Answer}
 use Rattle.c_tree.specs.Asking.{Next, Misfit, State, fits, asked, ask, fault}
 use Rattle.c_tree.specs.Scripts.{over, ends_run}
 use Rattle.c_code.specs.declared.instr.Instr.{Instr}
-use Rattle.c_code.specs.declared.code.Code.{Code}
+use Rattle.c_code.specs.FlatCode.{FlatCode}
 use Rattle.c_code.specs.Machine.{Frame, Mach, Stepped, Moves, Asks, Sticks, Behind, Goes, Ends, step, step_of, resume, resume_of, fetched, fetched_resume, breaks}
 use Rattle.c_code.specs.Demands.{demanded, behind, stepped, exec, Reaches}
 
@@ -17,7 +17,7 @@ use Rattle.c_code.specs.Demands.{demanded, behind, stepped, exec, Reaches}
 abbrev pub at : ℕ → List Word → List Frame → ℕ → List Word → ℕ → Mach
 at pc stack frames line slots turns = record { pc = pc; stack = stack; frames = frames; line = line; slots = slots; turns = turns; script = None }
 
-module _ (code : Code) where
+module _ (code : FlatCode) where
   -- the instructions stand in the code at this place
   abbrev pub HasAt : ℕ → List Instr → Type 0
   HasAt pc [] = Unit {0}

@@ -11,12 +11,12 @@ use Rattle.c_tree.specs.Asking.{Next, State, Step, ask, fault, tick, tick_from, 
 use Rattle.c_tree.specs.Execution.{object_of, release, make}
 use Rattle.c_code.specs.declared.instr.Instr.{Instr}
 use Rattle.c_code.specs.declared.instr.Instr.TheVariants as i
-use Rattle.c_code.specs.declared.code.Code.{Code}
+use Rattle.c_code.specs.FlatCode.{FlatCode}
 use Rattle.c_code.specs.Machine.{Frame, Mach, Stepped, Moves, step_of, resume_of, next, turned}
 use Rattle.c_compile.proofs.Steps.{at, To, moved_to, goes, asks_ok, faults}
 use Rattle.c_compile.proofs.Operations.{Runs, Is}
 
-module _ (code : Code) (frames : List Frame) (ln : ℕ) where
+module _ (code : FlatCode) (frames : List Frame) (ln : ℕ) where
   -- a turn is counted before what follows
   pub tick_ok : (pc line : ℕ) (stack : List Word) (s : State) (k : Unit {0} → State → Next) → Is code frames ln pc (i.Tick line)
       → ((left : ℕ) → s.turns ≡ suc left → Runs code frames ln (pc + 1) stack (record s { turns = left }) (k tt (record s { turns = left }))) → Runs code frames ln pc stack s (tick line k s)
