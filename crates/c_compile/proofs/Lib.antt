@@ -8,3 +8,4 @@ pub mod Turns
 pub mod Statements
 pub mod Loops
 pub mod Functions
+pub mod Plain
