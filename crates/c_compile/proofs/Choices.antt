@@ -1,9 +1,7 @@
 -- Codes of expressions that evaluate one side or the other, and of `++` and `--`.
-use Rattle.std.proofs.Common.{◌≡◌, ℕ, zero, suc, ◌+◌, ◌-◌, ◌≤◌, Bool, true, false, not, cond, List, [], ◌∷◌, ◌++◌, length, Some, pos, refl, sym, ap, ◌∙◌, arith, length-append}
+use Rattle.std.proofs.Common.{◌≡◌, ℕ, ◌+◌, ◌≤◌, Bool, true, false, cond, List, [], ◌∷◌, ◌++◌, length, pos, refl, arith, length-append}
 use Rattle.mpc_base.specs.declared.values.Word.{Word}
 use Rattle.mpc_base.specs.declared.values.Word.TheVariants.{Int}
-use Rattle.mpc_base.specs.declared.calls.Call.TheVariants as call
-use Rattle.mpc_base.specs.declared.answers.Answer.{Answer}
 use Rattle.c_tree.specs.declared.program.Update.{Update}
 use Rattle.c_tree.specs.Words.{holds, truth}
 use Rattle.c_tree.specs.Asking.{Next, State, Step, ◌>>=◌, pure, set}
@@ -13,8 +11,8 @@ use Rattle.c_code.specs.declared.instr.Instr.TheVariants as i
 use Rattle.c_code.specs.FlatCode.{FlatCode}
 use Rattle.c_code.specs.Machine.{Frame, step_of}
 use Rattle.c_compile.specs.Compiled.{and_code, or_code, choice_code, step_local, step_store}
-use Rattle.c_compile.proofs.Steps.{at, HasAt, has_front, has_back, To, moved_to, goes}
-use Rattle.c_compile.proofs.Operations.{Runs, Is, Gives, GivesFrom, Unary, Binary, one_ok, two_ok, push_ok, get_ok, set_ok, truth_ok, store_ok, update_ok, peek_ok, unless_ok, skip_ok, pop_ok}
+use Rattle.c_compile.proofs.Steps.{at, HasAt, has_front, has_back, moved_to, goes}
+use Rattle.c_compile.proofs.Operations.{Runs, Is, Gives, get_ok, set_ok, store_ok, update_ok, peek_ok, unless_ok, skip_ok, pop_ok}
 
 module _ (code : FlatCode) (frames : List Frame) (ln : ℕ) where
   -- a word that is put on the stack at a place

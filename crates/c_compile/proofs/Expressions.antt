@@ -1,30 +1,27 @@
 -- The code of an expression gives its value, and asks what its evaluation asks.
-use Rattle.std.proofs.Common.{◌≡◌, ℕ, zero, suc, ◌+◌, ◌-◌, ◌≤◌, Bool, true, false, not, cond, List, [], ◌∷◌, ◌++◌, length, drop, Some, None, pos, refl, sym, ap, ◌∙◌, arith, length-append}
+use Rattle.std.proofs.Common.{◌≡◌, ℕ, suc, ◌+◌, ◌≤◌, not, cond, List, [], ◌∷◌, ◌++◌, length, Some, pos, refl, ap, arith, length-append}
 use Rattle.std.specs.Prelude.{slice_get}
 use Rattle.mpc_base.specs.declared.values.Word.{Word}
 use Rattle.mpc_base.specs.declared.values.Word.TheVariants.{Int}
 use Rattle.mpc_base.specs.declared.calls.Call.TheVariants as call
-use Rattle.mpc_base.specs.declared.answers.Answer.{Answer}
 use Rattle.c_tree.specs.declared.formats.Piece.{Piece}
 use Rattle.c_tree.specs.declared.program.Callee.{Callee}
 use Rattle.c_tree.specs.declared.program.Callee.TheVariants as callee
 use Rattle.c_tree.specs.declared.program.Width.TheVariants as width
 use Rattle.c_tree.specs.Programs as p
 use Rattle.c_tree.specs.Numbers.{number_of}
-use Rattle.c_tree.specs.Arithmetic.{operated, negated, complemented, compared}
-use Rattle.c_tree.specs.Words.{printed, holds, truth, same_word, malloc_words, pointer_of}
-use Rattle.c_tree.specs.Asking.{Next, State, Step, ◌>>=◌, pure, ask, set, word_of}
-use Rattle.c_tree.specs.Scripts.{asks_of}
-use Rattle.c_tree.specs.Evaluation.{Calls, eval, eval_all, applied, load, store, updated, offset, number_or_fault, value_of_local, scalar_of}
-use Rattle.c_code.specs.declared.instr.Instr.{Instr}
+use Rattle.c_tree.specs.Arithmetic.{operated, compared}
+use Rattle.c_tree.specs.Words.{printed, truth, same_word}
+use Rattle.c_tree.specs.Asking.{Next, State, ◌>>=◌, pure, ask, set, word_of}
+use Rattle.c_tree.specs.Evaluation.{Calls, eval, eval_all, applied, load, store, updated, offset, number_or_fault, scalar_of}
 use Rattle.c_code.specs.declared.instr.Instr.TheVariants as i
 use Rattle.c_code.specs.FlatCode.{FlatCode}
-use Rattle.c_code.specs.Machine.{Frame, Mach, Asks, Goes, step_of, resume_of, arguments_on, go_next}
+use Rattle.c_code.specs.Machine.{Frame, Asks, step_of, resume_of, go_next}
 use Rattle.c_compile.specs.Compiled.{expr_code, exprs_code, callee_code, count_of}
-use Rattle.c_compile.proofs.Steps.{at, HasAt, has_front, has_back, To, moved_to, asks_ok}
+use Rattle.c_compile.proofs.Steps.{at, HasAt, has_front, has_back, moved_to, asks_ok}
 use Rattle.c_compile.proofs.Arguments.{pushed, taken, dropped}
 use Rattle.c_compile.proofs.ScriptRuns.{mpi_ok}
-use Rattle.c_compile.proofs.Operations.{Runs, Is, Gives, GivesFrom, one_ok, two_ok, push_ok, get_ok, object_ok, set_ok, load_ok, peek_ok, negate_ok, complement_ok, not_ok, narrow_ok, malloc_ok, free_ok, store_ok, arithmetic_ok, compare_ok, same_ok, offset_ok, update_ok}
+use Rattle.c_compile.proofs.Operations.{Runs, Is, Gives, one_ok, two_ok, push_ok, get_ok, object_ok, set_ok, load_ok, peek_ok, negate_ok, complement_ok, not_ok, narrow_ok, malloc_ok, free_ok, store_ok, arithmetic_ok, compare_ok, same_ok, offset_ok, update_ok}
 use Rattle.c_compile.proofs.Choices.{and_ok, or_ok, choice_ok, then_ok, step_local_ok, step_store_ok}
 
 -- A call's instruction does what the call does.

@@ -1,5 +1,5 @@
 -- The code of functions, their calls, and the whole program.
-use Rattle.std.proofs.Common.{◌≡◌, ℕ, zero, suc, ◌+◌, ◌-◌, ◌<◌, ◌≤◌, Bool, true, false, cond, List, [], ◌∷◌, ◌++◌, length, Option, Some, None, pos, refl, sym, ap, ◌∙◌, subst, arith, append_assoc, length-append, take, drop, reverse, get_or}
+use Rattle.std.proofs.Common.{◌≡◌, ℕ, zero, suc, ◌+◌, ◌<◌, ◌≤◌, Bool, true, false, cond, List, [], ◌∷◌, ◌++◌, length, Option, Some, None, pos, refl, sym, ap, ◌∙◌, subst, arith, append_assoc, length-append, drop}
 use Rattle.std.specs.Prelude.{slice_get, slice_set, slice_index_or, nat_lt}
 use Rattle.std.specs.Int.{int_wrap}
 use Rattle.std.proofs.lemmas.Bool.{lt-ltb, le-ltb}
@@ -16,24 +16,23 @@ use Rattle.c_tree.specs.declared.program.Ending.TheVariants as ending
 use Rattle.c_tree.specs.Programs as p
 use Rattle.c_tree.specs.Numbers.{number_of}
 use Rattle.c_tree.specs.Words.{pointer_of}
-use Rattle.c_tree.specs.Asking.{Next, State, Step, ◌>>=◌, pure, ask, fault, get, tick, tick_from, word_of}
+use Rattle.c_tree.specs.Asking.{Next, State, Step, ◌>>=◌, pure, ask, fault, tick, tick_from, word_of}
 use Rattle.c_tree.specs.Scripts.{over}
 use Rattle.c_tree.specs.Evaluation.{Calls}
-use Rattle.c_tree.specs.Execution.{Exit, Normal, Broken, Continued, Returned, drop_line, release, make, at_end, run_body, value_of, with_params, slots_of, apart, exit_of, called, item}
+use Rattle.c_tree.specs.Execution.{Exit, Normal, Broken, Continued, Returned, drop_line, release, make, at_end, run_body, value_of, with_params, slots_of, exit_of, called}
 use Rattle.c_tree.specs.Next.{calls_of, arguments_of_main, finish, finish_main, next_in, next_of}
 use Rattle.c_code.specs.declared.instr.Instr.{Instr}
 use Rattle.c_code.specs.declared.instr.Instr.TheVariants as i
 use Rattle.c_code.specs.declared.code.Entry.{Entry}
 use Rattle.c_code.specs.FlatCode.{FlatCode}
-use Rattle.c_code.specs.Machine.{Frame, Mach, Stepped, Moves, Asks, step_of, resume_of, turned, entered, breaks, arguments_on, depth_limit, fetched, fetched_resume, step, resume}
-use Rattle.c_code.specs.Demands.{exec, behind, Reaches, Demands, begins, main_arguments, turn_limit}
-use Rattle.c_compile.specs.Compiled.{Place, drops, inside, outside, ending_code, items_code, params_code, function_code, functions_code, entries_from, params_of}
+use Rattle.c_code.specs.Machine.{Frame, Mach, Stepped, Moves, step_of, resume_of, turned, entered, breaks, arguments_on, fetched, fetched_resume}
+use Rattle.c_code.specs.Demands.{exec, behind, Reaches, begins, main_arguments, turn_limit}
+use Rattle.c_compile.specs.Compiled.{Place, inside, outside, ending_code, items_code, params_code, function_code, functions_code, entries_from, params_of}
 use Rattle.c_code.specs.Following.{NeverSticks}
 use Rattle.c_compile.specs.Correct.{compiled, Behaves, HasMain}
-use Rattle.c_compile.proofs.Steps.{at, HasAt, has_front, has_back, To, moved_to, goes, asks_ok, asks_on, faults}
+use Rattle.c_compile.proofs.Steps.{at, HasAt, has_front, has_back, moved_to, goes, asks_ok, asks_on, faults}
 use Rattle.c_compile.proofs.Arguments.{pushed, taken, dropped}
 use Rattle.c_compile.proofs.Operations.{Runs, Is, push_ok, skip_ok}
-use Rattle.c_compile.proofs.Turns.{release_ok}
 use Rattle.c_compile.proofs.Expressions.{CallsDo}
 use Rattle.c_compile.proofs.Statements.{Exits, Does, fewer, return_ok, dropped_ok}
 use Rattle.c_compile.proofs.Loops.{stmt_ok, item_ok}

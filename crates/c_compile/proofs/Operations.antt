@@ -1,12 +1,11 @@
 -- What each instruction on the stack does is what its step of an expression does.
-use Rattle.std.proofs.Common.{◌≡◌, ℕ, zero, suc, ◌+◌, ◌-◌, ◌<◌, ◌≤◌, Bool, true, false, not, cond, List, [], ◌∷◌, ◌++◌, length, Option, Some, None, Result, Ok, Err, ℤ, pos, refl, sym, ap, ◌∙◌, subst, arith, append_assoc, length-append}
+use Rattle.std.proofs.Common.{◌≡◌, ℕ, ◌+◌, ◌≤◌, Bool, true, false, not, cond, List, [], ◌∷◌, ◌++◌, length, Some, Result, Ok, Err, ℤ, pos, refl, ap, arith, length-append}
 use Rattle.std.specs.Prelude.{slice_get, slice_set, slice_index_or}
 use Rattle.mpc_base.specs.declared.values.Word.{Word}
 use Rattle.mpc_base.specs.declared.values.Word.TheVariants.{Undef, Int, Null, Ptr, Comm, Req}
 use Rattle.mpc_base.specs.declared.calls.Call.TheVariants as call
 use Rattle.mpc_base.specs.declared.faults.Fault.{Fault}
 use Rattle.mpc_base.specs.declared.faults.Fault.TheVariants as fault_of
-use Rattle.mpc_base.specs.declared.answers.Answer.{Answer}
 use Rattle.c_tree.specs.declared.program.Scalar.{Scalar}
 use Rattle.c_tree.specs.declared.program.Width.{Width}
 use Rattle.c_tree.specs.declared.program.Width.TheVariants as width
@@ -17,12 +16,12 @@ use Rattle.c_tree.specs.declared.program.Update.TheVariants as update_of
 use Rattle.c_tree.specs.Numbers.{number_of}
 use Rattle.c_tree.specs.Arithmetic.{operated, negated, complemented, compared}
 use Rattle.c_tree.specs.Words.{pointer_of, read_as, holds, truth, same_word, moved, elements, malloc_words}
-use Rattle.c_tree.specs.Asking.{Next, State, Step, ◌>>=◌, pure, ask, fault, get, set, word_of}
-use Rattle.c_tree.specs.Evaluation.{known, value_of_local, number_or_fault, word_or_fault, load, store, updated, narrowed, offset, if_holds}
+use Rattle.c_tree.specs.Asking.{Next, State, Step, ◌>>=◌, pure, ask, get, set, word_of}
+use Rattle.c_tree.specs.Evaluation.{known, value_of_local, number_or_fault, word_or_fault, load, store, updated, narrowed, offset}
 use Rattle.c_code.specs.declared.instr.Instr.{Instr}
 use Rattle.c_code.specs.declared.instr.Instr.TheVariants as i
 use Rattle.c_code.specs.FlatCode.{FlatCode}
-use Rattle.c_code.specs.Machine.{Frame, Mach, Moves, Asks, step_of, resume_of, next, number_next, word_next, known_next, updated_next, Goes}
+use Rattle.c_code.specs.Machine.{Frame, Moves, step_of, resume_of, next, number_next, word_next, known_next}
 use Rattle.c_compile.proofs.Steps.{at, HasAt, has_front, has_back, To, moved_to, goes, asks_ok, faults}
 
 module _ (code : FlatCode) (frames : List Frame) (ln : ℕ) where

@@ -1,19 +1,18 @@
 -- The machine takes the script of an MPI function as its meaning does.
-use Rattle.std.proofs.Common.{◌≡◌, ℕ, zero, suc, ◌+◌, Bool, true, false, cond, List, [], ◌∷◌, length, drop, Option, Some, None, ℤ, pos, negsuc, refl, sym, ap, ◌∙◌, subst}
+use Rattle.std.proofs.Common.{◌≡◌, ℕ, zero, suc, ◌+◌, Bool, true, false, List, [], ◌∷◌, length, Some, ℤ, pos, negsuc, refl, ap, ◌∙◌, subst}
 use Rattle.std.specs.Prelude.{slice_get, if◌then◌else◌}
 use Rattle.mpc_base.specs.declared.values.Word.{Word}
 use Rattle.mpc_base.specs.declared.values.Word.TheVariants.{Int}
-use Rattle.mpc_base.specs.declared.calls.Call.{Call}
 use Rattle.mpc_base.specs.declared.faults.Fault.TheVariants.{BadCount}
 use Rattle.mpc_base.specs.declared.answers.Answer.{Answer}
 use Rattle.c_tree.specs.declared.program.MpiCall.{MpiCall}
 use Rattle.c_tree.specs.declared.scripts.ScriptStep.{ScriptStep}
 use Rattle.c_tree.specs.MpiScripts.{steps_of, each_of, last_of}
-use Rattle.c_tree.specs.Asking.{Next, State, Step}
+use Rattle.c_tree.specs.Asking.{Next, State}
 use Rattle.c_tree.specs.Scripts.{Found, nothing_found, Wanted, Wants, Skips, Breaks, wanted, found_behind, number_at, ends_run, over, take_step, take_steps, take_each, take_requests, asks_of}
 use Rattle.c_code.specs.declared.instr.Instr.TheVariants as i
 use Rattle.c_code.specs.FlatCode.{FlatCode}
-use Rattle.c_code.specs.Machine.{Frame, Mach, Scripting, Phase, First, Requests, Last, Moves, Asks, step, step_of, resume, script_wants, behind_first, part_behind, arguments_on}
+use Rattle.c_code.specs.Machine.{Frame, Mach, Scripting, Phase, First, Requests, Last, Moves, step, step_of, resume, script_wants, behind_first, arguments_on}
 use Rattle.c_code.specs.Demands.{exec, behind, Reaches}
 use Rattle.c_compile.proofs.Steps.{at, To, goes, goes_on, asks_on, fails_on}
 use Rattle.c_compile.proofs.Arguments.{pushed, taken, dropped}

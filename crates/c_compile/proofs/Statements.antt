@@ -1,28 +1,18 @@
 -- The code of a statement does what the statement does, on each way out of it.
-use Rattle.std.proofs.Common.{◌≡◌, ℕ, zero, suc, ◌+◌, ◌-◌, ◌≤◌, Bool, true, false, cond, List, [], ◌∷◌, ◌++◌, length, Option, Some, None, pos, refl, sym, ap, ◌∙◌, subst, arith, append_assoc, length-append}
-use Rattle.std.specs.Prelude.{slice_get, slice_set, slice_index_or}
+use Rattle.std.proofs.Common.{◌≡◌, ℕ, suc, ◌+◌, ◌≤◌, List, [], ◌∷◌, ◌++◌, length, refl, sym, ◌∙◌, subst, arith, length-append}
 use Rattle.mpc_base.specs.declared.values.Word.{Word}
-use Rattle.mpc_base.specs.declared.values.Word.TheVariants.{Undef, Int}
-use Rattle.mpc_base.specs.declared.calls.Call.TheVariants as call
-use Rattle.mpc_base.specs.declared.faults.Fault.TheVariants.{Turns}
-use Rattle.mpc_base.specs.declared.answers.Answer.{Answer}
-use Rattle.mpc_base.specs.declared.answers.Way.{Way}
-use Rattle.mpc_base.specs.declared.answers.Way.TheVariants as way
-use Rattle.c_tree.specs.Programs as p
 use Rattle.c_tree.specs.Words.{holds}
-use Rattle.c_tree.specs.Asking.{Next, State, Step, ◌>>=◌, pure, ask, fault, set, tick, tick_from}
-use Rattle.c_tree.specs.Evaluation.{Calls, eval, if_holds}
-use Rattle.c_tree.specs.Execution.{Exit, Normal, Broken, Continued, Returned, then, behind_body, drop_line, release, make, test_of, step_of, loop, loop_from, do_loop, do_loop_from, in_way, way_of, returned, item, exec, run}
+use Rattle.c_tree.specs.Asking.{Next, State, Step, ◌>>=◌, pure}
+use Rattle.c_tree.specs.Evaluation.{if_holds}
+use Rattle.c_tree.specs.Execution.{Exit, Normal, Broken, Continued, Returned, then, drop_line, release, make}
 use Rattle.c_code.specs.declared.instr.Instr.{Instr}
 use Rattle.c_code.specs.declared.instr.Instr.TheVariants as i
 use Rattle.c_code.specs.FlatCode.{FlatCode}
-use Rattle.c_code.specs.Machine.{Frame, Mach, Goes, Moves, resume_of, way_next}
-use Rattle.c_code.specs.Machine as machine
-use Rattle.c_compile.specs.Compiled.{expr_code, Place, drops, before, inside, body_of, test_code, step_code, loop_code, do_code, if_code, single_code, return_code, no_ending, item_code, stmt_code, items_code}
-use Rattle.c_compile.proofs.Steps.{at, HasAt, has_front, has_back, To, moved_to, goes, asks_ok}
-use Rattle.c_compile.proofs.Operations.{Runs, Is, Gives, push_ok, unless_ok, skip_ok, pop_ok}
-use Rattle.c_compile.proofs.Turns.{tick_ok, again_ok, again_fails, again_ends, release_ok, make_ok}
-use Rattle.c_compile.proofs.Expressions.{CallsDo, expr_ok}
+use Rattle.c_code.specs.Machine.{Frame}
+use Rattle.c_compile.specs.Compiled.{Place, drops, before, inside, if_code}
+use Rattle.c_compile.proofs.Steps.{HasAt, has_front, has_back, moved_to}
+use Rattle.c_compile.proofs.Operations.{Runs, Gives, unless_ok, skip_ok, pop_ok}
+use Rattle.c_compile.proofs.Turns.{release_ok, make_ok}
 
 module _ (code : FlatCode) (frames : List Frame) (ln : ℕ) where
   abbrev Has : ℕ → List Instr → Type 0

@@ -1,5 +1,5 @@
 -- One step of the machine, and instructions that stand at a place.
-use Rattle.std.proofs.Common.{◌≡◌, ℕ, zero, suc, ◌+◌, ◌-◌, ◌<◌, ◌≤◌, Bool, true, false, cond, List, [], ◌∷◌, ◌++◌, length, Option, Some, None, refl, sym, ap, ◌∙◌, subst, arith, append_assoc, length-append}
+use Rattle.std.proofs.Common.{◌≡◌, ℕ, zero, suc, ◌+◌, Bool, true, false, cond, List, [], ◌∷◌, ◌++◌, length, Option, Some, None, refl, ap, ◌∙◌, subst, arith}
 use Rattle.std.specs.Prelude.{slice_get}
 use Rattle.mpc_base.specs.declared.values.Word.{Word}
 use Rattle.mpc_base.specs.declared.calls.Call.{Call}
@@ -7,10 +7,10 @@ use Rattle.mpc_base.specs.declared.calls.Call.TheVariants as call
 use Rattle.mpc_base.specs.declared.faults.Fault.{Fault}
 use Rattle.mpc_base.specs.declared.answers.Answer.{Answer}
 use Rattle.c_tree.specs.Asking.{Next, Misfit, State, fits, asked, ask, fault}
-use Rattle.c_tree.specs.Scripts.{over, ends_run}
+use Rattle.c_tree.specs.Scripts.{ends_run}
 use Rattle.c_code.specs.declared.instr.Instr.{Instr}
 use Rattle.c_code.specs.FlatCode.{FlatCode}
-use Rattle.c_code.specs.Machine.{Frame, Mach, Stepped, Moves, Asks, Sticks, Behind, Goes, Ends, step, step_of, resume, resume_of, fetched, fetched_resume, breaks}
+use Rattle.c_code.specs.Machine.{Frame, Mach, Moves, Asks, Behind, Goes, step, step_of, resume, resume_of, fetched, fetched_resume, breaks}
 use Rattle.c_code.specs.Demands.{demanded, behind, stepped, exec, Reaches}
 
 -- the machine at a place of the code, with no script begun

@@ -1,19 +1,18 @@
 -- Jumps back and the turns that they count, and instructions that ask beside the stack.
-use Rattle.std.proofs.Common.{◌≡◌, ℕ, zero, suc, ◌+◌, ◌-◌, ◌≤◌, Bool, true, false, cond, List, [], ◌∷◌, ◌++◌, length, Some, None, pos, refl, sym, ap, ◌∙◌, subst, arith}
-use Rattle.std.specs.Prelude.{slice_get, slice_set, slice_index_or}
+use Rattle.std.proofs.Common.{◌≡◌, ℕ, zero, suc, ◌+◌, ◌-◌, ◌≤◌, true, false, cond, List, ◌∷◌, refl, sym, ap, ◌∙◌, subst, arith}
+use Rattle.std.specs.Prelude.{slice_set, slice_index_or}
 use Rattle.mpc_base.specs.declared.values.Word.{Word}
-use Rattle.mpc_base.specs.declared.values.Word.TheVariants.{Undef, Int}
+use Rattle.mpc_base.specs.declared.values.Word.TheVariants.{Undef}
 use Rattle.mpc_base.specs.declared.calls.Call.TheVariants as call
 use Rattle.mpc_base.specs.declared.faults.Fault.TheVariants.{Turns}
 use Rattle.mpc_base.specs.declared.answers.Answer.{Answer}
 use Rattle.c_tree.specs.Words.{holds, pointer_of}
-use Rattle.c_tree.specs.Asking.{Next, State, Step, ask, fault, tick, tick_from, word_of}
+use Rattle.c_tree.specs.Asking.{Next, State, ask, fault, tick, tick_from, word_of}
 use Rattle.c_tree.specs.Execution.{object_of, release, make}
-use Rattle.c_code.specs.declared.instr.Instr.{Instr}
 use Rattle.c_code.specs.declared.instr.Instr.TheVariants as i
 use Rattle.c_code.specs.FlatCode.{FlatCode}
 use Rattle.c_code.specs.Machine.{Frame, Mach, Stepped, Moves, step_of, resume_of, next, turned}
-use Rattle.c_compile.proofs.Steps.{at, To, moved_to, goes, asks_ok, faults}
+use Rattle.c_compile.proofs.Steps.{at, goes, asks_ok, faults}
 use Rattle.c_compile.proofs.Operations.{Runs, Is}
 
 module _ (code : FlatCode) (frames : List Frame) (ln : ℕ) where

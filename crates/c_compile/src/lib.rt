@@ -6,4 +6,4 @@
 
 mod laws;
 
-pub use laws::code_asks_what_the_program_asks;
+pub use laws::{code_asks_what_the_program_asks, plain_programs_ask_plain_calls};
