@@ -9,3 +9,5 @@ pub mod Statements
 pub mod Loops
 pub mod Functions
 pub mod Plain
+pub mod Makings
+pub mod Blocks

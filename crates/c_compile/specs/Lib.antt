@@ -1,3 +1,4 @@
 pub mod Compiled
 pub mod Correct
 pub mod Plain
+pub mod Standing

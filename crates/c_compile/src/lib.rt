@@ -4,6 +4,10 @@
 //! behave as a program.
 #![tactic(auto)]
 
+mod emitter;
+mod expression_code;
 mod laws;
+mod statement_code;
+mod surroundings;
 
 pub use laws::{code_asks_what_the_program_asks, plain_programs_ask_plain_calls};
