@@ -62,7 +62,7 @@ none_declared x h = (plain_item x h).0
 pub none_closed : (x : p.Stmt) (end : ℕ) (out : List Instr) → is_local x ≡ false → out ≡ closing end (declared (p.Then x p.Done)) ++ out
 none_closed x end out h = sym (ap (λ d. closing end d ++ out) (none_declared x h))
 
-opens_none : (s : Standing) → s ≡ with_opened s []
+pub opens_none : (s : Standing) → s ≡ with_opened s []
 opens_none s = ap (λ l. record s { opened = l }) (sym (append-nil s.opened))
 
 pub none_opened : (x : p.Stmt) (s : Standing) → is_local x ≡ false → s ≡ with_opened s (declared (p.Then x p.Done))
@@ -76,11 +76,11 @@ pub one_opened : (x : p.Stmt) (line slot words : ℕ) (s s' : Standing) → x �
 one_opened x line slot words s s' is m = m ∙ sym (ap (λ z. with_opened s (declared (p.Then z p.Done))) is)
 
 -- the drops of two lists of locals
-closed_both : (end : ℕ) (a b : List ℕ) → closing end (a ++ b) ≡ closing end b ++ closing end a
+pub closed_both : (end : ℕ) (a b : List ℕ) → closing end (a ++ b) ≡ closing end b ++ closing end a
 closed_both end [] b = sym (append-nil (closing end b))
 closed_both end (slot ∷ a) b = ap (λ l. l ++ i.Release slot end ∷ []) (closed_both end a b) ∙ append_assoc (closing end b) (closing end a) (i.Release slot end ∷ [])
 
-opened_both : (s : Standing) (a b : List ℕ) → with_opened (with_opened s a) b ≡ with_opened s (a ++ b)
+pub opened_both : (s : Standing) (a b : List ℕ) → with_opened (with_opened s a) b ≡ with_opened s (a ++ b)
 opened_both s a b = ap (λ l. record s { opened = l }) (append_assoc s.opened a b)
 
 taken_declared : (items : List Stmt) (k : ℕ) (d : Stmt) → k < length items → declared (stmts_of (take (k + 1) items)) ≡ declared (stmts_of (take k items)) ++ declared (p.Then (stmt_of (get_or items k d)) p.Done)
@@ -123,7 +123,7 @@ inside_place s slot m f =
     ∙ ap (λ x. record { exit = 1 + (m - s.exit); again = 1 + (m - s.again); in_loop = x; in_function = reverse (s.opened ++ slot ∷ []) }) c
     ∙ ap (λ x. record { exit = 1 + (m - s.exit); again = 1 + (m - s.again); in_loop = slot ∷ reverse (drop s.outside s.opened); in_function = x }) d
 
-opened_fits : (s : Standing) (slots : List ℕ) (m : ℕ) → Fits s m → Fits (with_opened s slots) (length slots + m)
+pub opened_fits : (s : Standing) (slots : List ℕ) (m : ℕ) → Fits s m → Fits (with_opened s slots) (length slots + m)
 opened_fits s slots m f =
     let a = f.exit in let b = f.again in let c = f.outside in
     record { exit = omega (arith, a); again = omega (arith, b); outside = omega (arith, c, length-append s.opened slots) }
@@ -132,7 +132,7 @@ pub more_fits : (s : Standing) (m n : ℕ) → m ≤ n → Fits s m → Fits s n
 more_fits s m n le f = let a = f.exit in let b = f.again in record { exit = omega (arith, a, le); again = omega (arith, b, le); outside = f.outside }
 
 -- Several locals more that are opened.
-all_inside : (slots : List ℕ) (s : Standing) (m : ℕ) → Fits s m → place_of (with_opened s slots) (length slots + m) ≡ opened_place slots (place_of s m)
+pub all_inside : (slots : List ℕ) (s : Standing) (m : ℕ) → Fits s m → place_of (with_opened s slots) (length slots + m) ≡ opened_place slots (place_of s m)
 all_inside [] s m f =
     let e : 0 + m ≡ m = omega arith in
     ap (place_of (with_opened s [])) e ∙ ap (λ z. place_of z m) (sym (opens_none s))
@@ -143,7 +143,7 @@ all_inside (slot ∷ slots) s m f =
     ∙ all_inside slots (with_opened s (slot ∷ [])) (1 + m) (opened_fits s (slot ∷ []) m f)
     ∙ ap (opened_place slots) (inside_place s slot m f)
 
-closing_length : (end : ℕ) (slots : List ℕ) → length (closing end slots) ≡ length slots
+pub closing_length : (end : ℕ) (slots : List ℕ) → length (closing end slots) ≡ length slots
 closing_length end [] = refl
 closing_length end (slot ∷ slots) = let e = closing_length end slots in omega (arith, e, length-append (closing end slots) (i.Release slot end ∷ []))
 
@@ -174,7 +174,7 @@ local_put x line slot words s now new end rest behind out made is n o m closed =
       closed s slot (n ∙ ap (λ z. with_opened s (declared (p.Then z p.Done))) is),
     )
 
-opened_on : (a b : List ℕ) (place : Place) → opened_place (a ++ b) place ≡ opened_place b (opened_place a place)
+pub opened_on : (a b : List ℕ) (place : Place) → opened_place (a ++ b) place ≡ opened_place b (opened_place a place)
 opened_on [] b place = refl
 opened_on (slot ∷ a) b place = opened_on a b (inside slot place)
 

@@ -11,3 +11,4 @@ pub mod Functions
 pub mod Plain
 pub mod Makings
 pub mod Blocks
+pub mod Parameters

@@ -1,10 +1,12 @@
 -- Where a statement stands, as code that is made from its end has it.
-use Rattle.std.specs.Prelude.{ℕ, ◌+◌, ◌-◌, ◌≤◌, List, [], ◌∷◌, ◌++◌, length, drop, reverse, Bool, true, false, Option, None, Some}
+use Rattle.std.specs.Prelude.{ℕ, suc, ◌+◌, ◌-◌, ◌≤◌, List, [], ◌∷◌, ◌++◌, length, drop, reverse, Bool, true, false, Option, None, Some}
 use Rattle.c_code.specs.declared.instr.Instr.{Instr}
 use Rattle.c_code.specs.declared.instr.Instr.TheVariants as i
 use Rattle.c_tree.specs.declared.program.Ending.{Ending}
 use Rattle.c_tree.specs.Programs as p
-use Rattle.c_compile.specs.Compiled.{Place, inside, no_ending, ending_code}
+use Rattle.c_tree.specs.declared.program.Function.{Function}
+use Rattle.c_tree.specs.ProgramOf.{function_of}
+use Rattle.c_compile.specs.Compiled.{Place, inside, no_ending, ending_code, function_code}
 
 -- How many instructions were made where the loop round the statement ends, and where its next turn begins; and the slots
 -- of the locals in memory of the blocks round it, the outermost first, of which so many are outside of the loop.
@@ -53,3 +55,14 @@ tail_of (Some ending) end = ending_code ending end
 abbrev pub opened_place : List ℕ → Place → Place
 opened_place [] place = place
 opened_place (slot ∷ slots) place = opened_place slots (inside slot place)
+
+-- the slots of the parameters in memory, from a slot on
+abbrev pub in_memory : ℕ → List Bool → List ℕ
+in_memory slot [] = []
+in_memory slot (false ∷ more) = in_memory (suc slot) more
+in_memory slot (true ∷ more) = slot ∷ in_memory (suc slot) more
+
+-- the lengths of functions' codes
+abbrev pub lengths_of : List Function → List ℕ
+lengths_of [] = []
+lengths_of (f ∷ more) = length (function_code (function_of f)) ∷ lengths_of more
