@@ -1,6 +1,6 @@
 -- The items of a block, whose code is made from the last to the first.
-use Rattle.std.proofs.Common.{◌≡◌, ℕ, zero, suc, ◌+◌, ◌-◌, ◌<◌, ◌≤◌, Bool, true, false, List, [], ◌∷◌, ◌++◌, length, refl, sym, ap, ◌∙◌, subst, arith, append_assoc, length-append, reverse, drop, take, get_or, Vec, Global}
-use Rattle.std.proofs.lemmas.List.{append-nil, reverse-append, take_more, drop-append-le, length-reverse}
+use Rattle.std.proofs.Common.{◌≡◌, ℕ, suc, ◌+◌, ◌-◌, ◌<◌, ◌≤◌, false, List, [], ◌∷◌, ◌++◌, length, refl, sym, ap, ◌∙◌, subst, arith, append_assoc, length-append, reverse, drop, take, get_or, Vec, Global}
+use Rattle.std.proofs.lemmas.List.{append-nil, reverse-append, take_more, drop-append-le}
 use Rattle.std.proofs.Math.Seq.{drop-cons, drop-length, take-length}
 use Rattle.c_tree.specs.declared.program.Stmt.{Stmt}
 use Rattle.c_tree.specs.declared.program.Stmt.TheVariants.{Block}
@@ -9,7 +9,7 @@ use Rattle.c_tree.specs.Programs as p
 use Rattle.c_tree.specs.ProgramOf.{stmt_of, stmts_of}
 use Rattle.c_code.specs.declared.instr.Instr.{Instr}
 use Rattle.c_code.specs.declared.instr.Instr.TheVariants as i
-use Rattle.c_compile.specs.Compiled.{Place, before, inside, body_of, drops, item_code, stmt_code, items_code, loop_code, do_code, no_ending}
+use Rattle.c_compile.specs.Compiled.{Place, before, inside, body_of, item_code, stmt_code, items_code, loop_code, do_code, no_ending}
 use Rattle.c_compile.specs.Standing.{Standing, Fits, place_of, with_opened, declared, is_local, closing, opened_place}
 
 -- what an item declares comes before what is declared behind it

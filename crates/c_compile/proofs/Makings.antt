@@ -1,14 +1,13 @@
 -- Code that is made from its end: what stands in the list of the instructions made.
-use Rattle.std.proofs.Common.{◌≡◌, ℕ, zero, suc, ◌+◌, ◌-◌, ◌<◌, ◌≤◌, List, [], ◌∷◌, ◌++◌, length, refl, sym, ap, ◌∙◌, subst, arith, append_assoc, length-append, Vec, Global, reverse, drop, take, get_or, set}
+use Rattle.std.proofs.Common.{◌≡◌, ℕ, suc, ◌+◌, ◌<◌, List, [], ◌∷◌, ◌++◌, length, refl, sym, ap, ◌∙◌, arith, append_assoc, Vec, Global, reverse, take, get_or, set}
 use Rattle.std.proofs.lemmas.List.{reverse-reverse, reverse-append, take_more, length-reverse}
-use Rattle.std.proofs.Math.Seq.{set-append_seam, drop-cons}
+use Rattle.std.proofs.Math.Seq.{set-append_seam}
 use Rattle.c_tree.specs.declared.program.Expr.{Expr}
 use Rattle.c_tree.specs.declared.program.Expr.TheVariants.{Apply}
 use Rattle.c_tree.specs.declared.program.Callee.{Callee}
 use Rattle.c_tree.specs.declared.program.Callee.TheVariants.{Print}
 use Rattle.c_tree.specs.declared.formats.Piece.{Piece}
 use Rattle.c_code.specs.declared.printing.Printing.{Printing}
-use Rattle.c_tree.specs.Programs as p
 use Rattle.c_tree.specs.ProgramOf.{expr_of, exprs_of}
 use Rattle.c_tree.proofs.ProgramRows.{apply_is}
 use Rattle.c_code.specs.declared.instr.Instr.{Instr}

@@ -12,6 +12,13 @@ use c_code::Instr;
 use c_tree::program::Function;
 use mpc_base::{Memory, Word};
 
+// The slot of a parameter.
+fn slot_of(index: usize) -> Result<u32, Memory>
+    ensures { IfOk result (λ slot. slot ≡ index) }
+{
+    u32::try_from(index).map_err(|_| Memory)
+}
+
 // The slot behind this one.
 fn next_slot(slot: u32) -> Result<u32, Memory>
     ensures { IfOk result (λ next. next ≡ suc slot) }
@@ -83,7 +90,7 @@ fn put_params(out: &mut Emitter, around: &mut Surroundings, params: &[bool]) -> 
     let mut left = params.len();
     while left > 0 {
         left -= 1;
-        let slot = u32::try_from(left).map_err(|_| Memory)?;
+        let slot = slot_of(left)?;
         put_param(out, around, slot, params[left])?;
     }
     Ok(())

@@ -1,6 +1,5 @@
 use Rattle.std.proofs.Common.{◌≡◌, suc, ◌-◌, refl, sym, arith}
-use Rattle.c_compile.specs.Standing.{tail_of}
-use Rattle.c_compile.proofs.Blocks.{Made, made_none, made_fits, made_more, made_all, block_put}
+use Rattle.c_compile.proofs.Blocks.{made_none, made_fits, made_more, made_all, block_put}
 use Rattle.c_compile.proofs.statement_code.+statement.Goals as goal
 
 pub put_items-loop-left-init : goal.put_items-loop-left-init
