@@ -2,13 +2,13 @@
 //! they end. The definitions stand in specs/; the functions that state laws of them are in laws.rt.
 #![tactic(auto)]
 
+mod lasts;
 mod laws;
 mod records;
-mod tasks;
 
+pub use lasts::Last;
 pub use laws::runs_go_on_by_one_step;
 pub use records::{RankEnd, RankEnds, RankState, RunRecord, Setup};
-pub use tasks::{Last, TaskState};
 
 #[cfg(test)]
 mod tests;
