@@ -1,5 +1,5 @@
 -- Laws of the map of live objects.
-use Rattle.std.proofs.Common.{◌≡◌, ℕ, Bool, true, false, cond, List, Some, None, refl, sym, ap, ◌∙◌}
+use Rattle.std.proofs.Common.{◌≡◌, ℕ, Bool, true, false, cond, List, Option, Some, None, refl, sym, ap, ◌∙◌}
 use Rattle.std.specs.Ordering.{nat_cmp, eq_by_cmp, is_eq}
 use Rattle.std.specs.declared.cmp.Ordering.{Ordering}
 use Rattle.std.specs.declared.cmp.Ordering.TheVariants.{Less, Equal, Greater}
@@ -15,13 +15,13 @@ is_eq_Equal Equal h = refl
 is_eq_Equal Greater h = cc
 
 -- keys that are compared alike are one key
-same_key : (a b : List ℕ) → eq_by_cmp (slice_cmp nat_cmp) a b ≡ true → a ≡ b
+pub same_key : (a b : List ℕ) → eq_by_cmp (slice_cmp nat_cmp) a b ≡ true → a ≡ b
 same_key a b h = map.slice_cmp-IsAntisymmetric map.nat_cmp-IsAntisymmetric a b (is_eq_Equal (slice_cmp nat_cmp a b) h)
 
-alike : (k : List ℕ) → eq_by_cmp (slice_cmp nat_cmp) k k ≡ true
+pub alike : (k : List ℕ) → eq_by_cmp (slice_cmp nat_cmp) k k ≡ true
 alike k = (eq_by_cmp_equiv nat_list_cmp_total).refl k
 
-false_of : (b : Bool) → (b ≡ true → ⊥) → b ≡ false
+pub false_of : (b : Bool) → (b ≡ true → ⊥) → b ≡ false
 false_of true never = absurd (never refl)
 false_of false never = refl
 
@@ -38,7 +38,7 @@ shadowed : {X : Type 0} (b : Bool) (x y z : X) → cond b y (cond b x z) ≡ con
 shadowed true x y z = refl
 shadowed false x y z = refl
 
-swapped : {X : Type 0} (b c : Bool) (x y z : X) → (b ≡ true → c ≡ true → ⊥) → cond c y (cond b x z) ≡ cond b x (cond c y z)
+pub swapped : {X : Type 0} (b c : Bool) (x y z : X) → (b ≡ true → c ≡ true → ⊥) → cond c y (cond b x z) ≡ cond b x (cond c y z)
 swapped true true x y z h = absurd (h refl refl)
 swapped true false x y z h = refl
 swapped false true x y z h = refl
@@ -71,3 +71,13 @@ pub get-remove_other : (m : Memory) (k q : List ℕ) → (q ≡ k → ⊥) → m
 get-remove_other m k q other =
     map.get-remove nat_list_cmp_total m k q
     ∙ ap (λ b. cond b None (map.get m q)) (false_of (eq_by_cmp (slice_cmp nat_cmp) q k) (λ h. other (same_key q k h)))
+
+nothing_there : {X : Type 0} (b : Bool) (x : Option X) → (b ≡ true → x ≡ None) → cond b None x ≡ x
+nothing_there true x none = sym (none refl)
+nothing_there false x none = refl
+
+-- taking out what does not live changes nothing
+pub remove-absent : (m : Memory) (k : List ℕ) → map.get m k ≡ None → map.remove m k ≡ m
+remove-absent m k none =
+    map.same_map nat_list_cmp_total (map.slice_cmp-IsAntisymmetric map.nat_cmp-IsAntisymmetric) _ _ (λ q.
+    map.get-remove nat_list_cmp_total m k q ∙ nothing_there (eq_by_cmp (slice_cmp nat_cmp) q k) (map.get m q) (λ h. ap (map.get m) (same_key q k h) ∙ none))

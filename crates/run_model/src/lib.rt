@@ -7,7 +7,7 @@ mod laws;
 mod records;
 
 pub use lasts::Last;
-pub use laws::runs_go_on_by_one_step;
+pub use laws::{legal_runs_go_on, runs_are_bounded, runs_go_on_by_one_step};
 pub use records::{RankEnd, RankEnds, RankState, RunRecord, Setup};
 
 #[cfg(test)]
