@@ -1,0 +1,6 @@
+//! The node: the memory of a run and its journal. A visit does one call of a task, as the model of runs
+//! says: what `Node` holds is at every moment a run of its setup.
+#![tactic(auto)]
+
+mod objects;
+mod places;
