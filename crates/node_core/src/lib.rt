@@ -2,5 +2,9 @@
 //! says: what `Node` holds is at every moment a run of its setup.
 #![tactic(auto)]
 
+mod accesses;
+mod acts;
 mod objects;
 mod places;
+mod ranges;
+mod state;
