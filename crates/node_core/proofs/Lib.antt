@@ -1,3 +1,5 @@
 pub mod Laid
 pub mod Placed
 pub mod Changes
+pub mod Visits
+pub mod Records

@@ -4,3 +4,8 @@ pub mod PlacesOf
 pub mod Coding
 pub mod Seen
 pub mod Worlds
+pub mod Held
+pub mod HeldCoding
+pub mod IsRun
+pub mod Keeps
+pub mod Visits

@@ -1,14 +1,11 @@
 -- What the node's functions answer, as the words of the model.
-use Rattle.std.specs.Prelude.{◌≡◌, ℕ, ℤ, List, [], ◌∷◌, ◌++◌, slice_get, slice_set, Result, Ok, Err, Option, Some, None}
+use Rattle.std.specs.Prelude.{ℕ, ℤ, List, Result, Ok, Err, Option}
 use Rattle.mpc_base.specs.declared.owners.Owner.TheVariants.{Task}
 use Rattle.mpc_base.specs.declared.answers.Answer.{Answer}
-use Rattle.mpc_base.specs.declared.answers.Out.{Out}
-use Rattle.mpc_base.specs.declared.answers.Out.TheVariants.{Did, Broke}
 use Rattle.mpc_base.specs.declared.faults.Fault.{Fault}
 use Rattle.memory_model.specs.Access.{Range, Places, NoPlaces, Objects, Access, Answers, Breaks}
-use Rattle.run_model.specs.declared.lasts.Last.{Last}
-use Rattle.run_model.specs.World.{World, TaskState}
-use Rattle.run_model.specs.Go.{Act, Does, Fails, answers_at}
+use Rattle.run_model.specs.World.{TaskState}
+use Rattle.run_model.specs.Go.{Act, Does, Fails}
 use Rattle.node_core.specs.declared.ranges.Span.{Span}
 
 -- the range that was found

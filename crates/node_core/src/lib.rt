@@ -4,7 +4,10 @@
 
 mod accesses;
 mod acts;
+mod node;
 mod objects;
 mod places;
 mod ranges;
 mod state;
+
+pub use node::{Node, Reply};
