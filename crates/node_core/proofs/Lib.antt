@@ -3,3 +3,4 @@ pub mod Placed
 pub mod Changes
 pub mod Visits
 pub mod Records
+pub mod Leads

@@ -24,19 +24,19 @@ module _ (setup : Setup) (w : World) where
   pub go_ended : has_ended w ≡ true → go setup w 0 ≡ Stays
   go_ended ended = rw ended refl
 
-left_false : (a b : Bool) → (a || b) ≡ false → a ≡ false
+pub left_false : (a b : Bool) → (a || b) ≡ false → a ≡ false
 left_false true b h = absurd (cc h)
 left_false false b h = refl
 
-right_false : (a b : Bool) → (a || b) ≡ false → b ≡ false
+pub right_false : (a b : Bool) → (a || b) ≡ false → b ≡ false
 right_false true b h = absurd (cc h)
 right_false false b h = h
 
-and_true : (a : Bool) → (a && true) ≡ false → a ≡ false
+pub and_true : (a : Bool) → (a && true) ≡ false → a ≡ false
 and_true true h = absurd (cc h)
 and_true false h = refl
 
-none_of : {A : Type 0} (x : Option A) → is_some x ≡ false → x ≡ None
+pub none_of : {A : Type 0} (x : Option A) → is_some x ≡ false → x ≡ None
 none_of None h = refl
 none_of (Some x) h = absurd (cc h)
 

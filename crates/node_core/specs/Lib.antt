@@ -9,3 +9,4 @@ pub mod HeldCoding
 pub mod IsRun
 pub mod Keeps
 pub mod Visits
+pub mod VisitLaws

@@ -4,10 +4,12 @@
 
 mod accesses;
 mod acts;
+mod laws;
 mod node;
 mod objects;
 mod places;
 mod ranges;
 mod state;
 
+pub use laws::{runs_begin_and_end, visits_leave_runs};
 pub use node::{Node, Reply};

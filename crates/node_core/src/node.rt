@@ -4,7 +4,7 @@ ghost use Rattle.c_tree.specs.Asking.{Asks};
 ghost use Rattle.c_tree.specs.Next.{next_of};
 ghost use Rattle.c_tree.specs.ProgramOf.{program_of};
 ghost use Rattle.run_model.specs.Go.{go, has_ended, answers_of};
-ghost use Rattle.run_model.specs.Run.{world_of, ending, rank_state, RecordsRun};
+ghost use Rattle.run_model.specs.Run.{world_of, ending, rank_state, LegalRun, RecordsRun};
 ghost use Rattle.node_core.specs.Visits.{made, reply_of, reply_to};
 
 use crate::state::State;
@@ -90,6 +90,13 @@ impl Node {
             out,
         });
         Ok(reply_to(out))
+    }
+
+    /// The node's entries are a legal run of its setup. It does nothing.
+    pub fn is_of_a_run(&self)
+        ensures { LegalRun self.now.setup (record { tasks = 1; entries = self.now.entries }) }
+    {
+        let _entries = &self.entries;
     }
 
     /// How the run stands.
