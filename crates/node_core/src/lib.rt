@@ -13,3 +13,6 @@ mod state;
 
 pub use laws::{runs_begin_and_end, visits_leave_runs};
 pub use node::{Node, Reply};
+
+#[cfg(test)]
+mod tests;
