@@ -2,11 +2,12 @@
 //! does or which fault it has. The definitions stand in specs/; the functions here state laws of them.
 #![tactic(auto)]
 
-ghost use Rattle.std.specs.Prelude.{◌≡◌, ℕ, ◌≤◌, ◌<◌, List, Some, None};
-ghost use Rattle.mpc_base.specs.declared.values.Word.{Word};
+ghost use Rattle.std.specs.Prelude.{◌≡◌, ℕ, Some, None};
 ghost use Rattle.mpc_base.specs.declared.values.Obj.{Obj};
 ghost use Rattle.mpc_base.specs.declared.owners.Owner.{Owner};
 ghost use Rattle.memory_model.specs.Memory.{Memory, Object, key_of, object_of, with_object, without};
+ghost use Rattle.memory_model.specs.Access.{Objects};
+ghost use Rattle.memory_model.specs.Names.{NamesAreLeft, NamesLast};
 
 mod kinds;
 
@@ -24,4 +25,9 @@ pub fn each_object_has_its_words()
 pub fn each_object_has_its_key()
     ensures owner { (owner other : Owner) (obj another : Obj) → key_of owner obj ≡ key_of other another → owner ≡ other }
     ensures object { (owner other : Owner) (obj another : Obj) → key_of owner obj ≡ key_of other another → obj ≡ another }
+{}
+
+/// An access of a task gives one name at most, under which nothing has lived.
+pub fn names_are_never_given_again()
+    ensures { (task : ℕ) (o : Objects) → NamesAreLeft task o → NamesLast task o }
 {}
