@@ -19,8 +19,8 @@ pub fn legal_runs_go_on()
     ensures world { (setup : Setup) (entries : List Entry) (entry : Entry) (world : World) → go setup (world_of setup entries) entry.task ≡ Makes entry world → world_of setup (entries ++ entry ∷ []) ≡ world }
 {}
 
-/// A run of one task has made no more objects than entries, and while it has not ended by a fault it has no more entries
-/// than are allowed.
+/// A run of one task has made no more objects than entries, nothing lives under a name that it has not given yet,
+/// and while it has not ended by a fault it has no more entries than are allowed.
 pub fn runs_are_bounded()
     ensures { (setup : Setup) (order : List ℕ) → Bounded (run setup order) }
 {}
