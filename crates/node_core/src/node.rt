@@ -60,6 +60,7 @@ impl Node {
         })
     }
 
+    /// What the run is set up from.
     pub fn setup(&self) -> &Setup
         ensures { result.now ≡ self.now.setup }
     {

@@ -28,12 +28,14 @@ impl Object {
         Object { kind, list: words }
     }
 
+    /// Which kind of object it is.
     pub fn kind(&self) -> Kind
         ensures { result ≡ self.now.kind }
     {
         self.kind
     }
 
+    /// The words of its places, in order.
     pub fn words(&self) -> &[Word]
         ensures { result.now ≡ self.now.words }
     {
