@@ -2,7 +2,8 @@
 ghost use Rattle.std.specs.Prelude.{◌≡◌, ◌≢◌, IfOk};
 
 use crate::report;
-use c_tree::{Function, Globals, Program};
+use c_tree::Globals;
+use c_tree::program::{Constructs, Program};
 use mpc_base::{End, Entries, Fault, Journal, Memory, Text};
 use run_model::{RankEnd, RankEnds, RankState, RunRecord, Setup};
 use std::alloc::Global;
@@ -28,15 +29,14 @@ fn record(alloc: Global, ranks: &[(RankState, &[u8])], end: End) -> Result<RunRe
             output: Text::of(Vec::from_slice(alloc, output)?),
         })?;
     }
-    let main = Function {
-        body: Vec::new(alloc),
-        end_line: 1,
-    };
     Ok(RunRecord {
         setup: Setup {
             program: Program {
                 variables: Globals::of(Vec::new(alloc)),
-                main,
+                functions: Vec::new(alloc),
+                main: 0,
+                constructs: Constructs::of(Vec::new(alloc)),
+                lines: 1,
             },
         },
         journal: Journal {

@@ -1,4 +1,4 @@
--- The memories of a run: each live object of each owner, with its words.
+-- The memories of a run: each live object of each owner, with its kind and its words.
 use Rattle.std.specs.Prelude.{ℕ, List, [], ◌∷◌, Option}
 use Rattle.std.specs.Ordering.{nat_cmp}
 use Rattle.std.specs.Cmp.Lexicographic.{slice_cmp}
@@ -10,6 +10,7 @@ use Rattle.mpc_base.specs.declared.owners.Level.{Level}
 use Rattle.mpc_base.specs.declared.owners.Level.TheVariants.{Core, L1, L2, L3, Numa, Node}
 use Rattle.mpc_base.specs.declared.owners.Owner.{Owner}
 use Rattle.mpc_base.specs.declared.owners.Owner.TheVariants.{Task, Inst}
+use Rattle.memory_model.specs.declared.kinds.Kind.{Kind}
 
 abbrev pub level_number : Level → ℕ
 level_number Core = 0
@@ -26,15 +27,23 @@ key_of (Task task) (Dyn made) = 0 ∷ task ∷ 1 ∷ made ∷ []
 key_of (Inst level id) (Glob variable) = 1 ∷ level_number level ∷ id ∷ 0 ∷ variable ∷ []
 key_of (Inst level id) (Dyn made) = 1 ∷ level_number level ∷ id ∷ 1 ∷ made ∷ []
 
--- The words of each live object. An object's place of number k holds the k-th of its words, counted from 0,
--- so the map says which objects live, how long they are and what each place holds.
+-- An object: its place of number k holds the k-th of its words, counted from 0. One without words has no places.
+pub record Object : Type 0 where
+  pub kind : Kind
+  pub words : List Word
+
+-- The live objects, so the map says which objects live, of which kind and how long they are, and what each place holds.
 abbrev pub Memory : Type 0
-Memory = map.FinMap (slice_cmp nat_cmp) (List Word)
+Memory = map.FinMap (slice_cmp nat_cmp) Object
 
--- the words of an object, where it lives
-abbrev pub words_of : Memory → Owner → Obj → Option (List Word)
-words_of m owner obj = map.get m (key_of owner obj)
+-- an object, where it lives
+abbrev pub object_of : Memory → Owner → Obj → Option Object
+object_of m owner obj = map.get m (key_of owner obj)
 
--- the memory in which the object has these words
-abbrev pub with_words : Memory → Owner → Obj → List Word → Memory
-with_words m owner obj words = map.insert m (key_of owner obj) words
+-- the memory in which the object is this one
+abbrev pub with_object : Memory → Owner → Obj → Object → Memory
+with_object m owner obj object = map.insert m (key_of owner obj) object
+
+-- the memory in which the object does not live
+abbrev pub without : Memory → Owner → Obj → Memory
+without m owner obj = map.remove m (key_of owner obj)

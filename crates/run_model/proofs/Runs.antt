@@ -4,7 +4,7 @@ use Rattle.mpc_base.specs.declared.journals.Entry.{Entry}
 use Rattle.run_model.specs.declared.records.Setup.{Setup}
 use Rattle.run_model.specs.World.{World}
 use Rattle.run_model.specs.Go.{go, Makes}
-use Rattle.run_model.specs.Run.{Ran, run_from, ran_step, run, order_of, at_start}
+use Rattle.run_model.specs.Run.{Ran, run_from, ran_step, run, order_of, world_of, at_start}
 
 -- a run goes on by one step
 pub run_from-append : (setup : Setup) (r : Ran) (order : List ℕ) (task : ℕ) → run_from setup r (order ++ task ∷ []) ≡ ran_step (run_from setup r order) (go setup (run_from setup r order).world task)
@@ -28,3 +28,12 @@ run-push setup entries r e w ran went =
     ∙ run_from-append setup (at_start setup) (order_of entries) e.task
     ∙ ap (λ x. ran_step x (go setup x.world e.task)) ran
     ∙ ap (ran_step r) went
+
+-- the world of the run of one entry more, and its entries
+pub world_of-push : (setup : Setup) (entries : List Entry) (e : Entry) (w : World) → go setup (world_of setup entries) e.task ≡ Makes e w → world_of setup (entries ++ e ∷ []) ≡ w
+world_of-push setup entries e w went = ap (λ r. r.world) (run-push setup entries (run setup (order_of entries)) e w refl went)
+
+pub entries-push : (setup : Setup) (entries : List Entry) (e : Entry) (w : World) → (run setup (order_of entries)).entries ≡ entries → go setup (world_of setup entries) e.task ≡ Makes e w
+    → (run setup (order_of (entries ++ e ∷ []))).entries ≡ entries ++ e ∷ []
+entries-push setup entries e w legal went =
+    ap (λ r. r.entries) (run-push setup entries (run setup (order_of entries)) e w refl went) ∙ ap (λ es. es ++ e ∷ []) legal

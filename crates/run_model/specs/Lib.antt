@@ -1,3 +1,4 @@
 pub mod World
 pub mod Go
 pub mod Run
+pub mod Bounds

@@ -11,9 +11,8 @@ use Rattle.run_model.specs.declared.records.RunRecord.{RunRecord}
 use Rattle.run_model.specs.declared.records.RankEnd.{RankEnd}
 use Rattle.run_model.specs.declared.records.RankState.{RankState}
 use Rattle.run_model.specs.declared.records.RankState.TheVariants as rank
-use Rattle.run_model.specs.declared.tasks.TaskState.{TaskState}
-use Rattle.run_model.specs.declared.tasks.Last.{Last}
-use Rattle.run_model.specs.World.{World, start, tasks_of}
+use Rattle.run_model.specs.declared.lasts.Last.{Last}
+use Rattle.run_model.specs.World.{World, TaskState, start, tasks_of}
 use Rattle.run_model.specs.Go.{Step, Stays, Makes, go, has_finished}
 
 -- What a run has made so far: its entries, and its world.

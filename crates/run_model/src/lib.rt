@@ -2,13 +2,13 @@
 //! they end. The definitions stand in specs/; the functions that state laws of them are in laws.rt.
 #![tactic(auto)]
 
+mod lasts;
 mod laws;
 mod records;
-mod tasks;
 
-pub use laws::runs_go_on_by_one_step;
+pub use lasts::Last;
+pub use laws::{legal_runs_go_on, runs_are_bounded, runs_go_on_by_one_step};
 pub use records::{RankEnd, RankEnds, RankState, RunRecord, Setup};
-pub use tasks::{Last, TaskState};
 
 #[cfg(test)]
 mod tests;

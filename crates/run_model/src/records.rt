@@ -1,6 +1,6 @@
 ghost use Rattle.std.specs.Prelude.{◌≡◌};
 
-use c_tree::Program;
+use c_tree::program::Program;
 use mpc_base::{End, Fault, Journal, Text};
 use std::marker::Model;
 

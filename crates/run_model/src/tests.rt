@@ -1,6 +1,8 @@
 //! The ends of ranks, in order of their numbers, and the laws.
 
-use crate::{RankEnd, RankEnds, RankState, runs_go_on_by_one_step};
+use crate::{
+    RankEnd, RankEnds, RankState, legal_runs_go_on, runs_are_bounded, runs_go_on_by_one_step,
+};
 use mpc_base::{Fault, Text};
 use std::test::*;
 
@@ -33,5 +35,7 @@ fn rank_ends_hold_each_rank(rt: HostRuntime) -> Result<(), Fail> {
     }
     assert_eq!(rt; ends.into_vec().len(), 3);
     runs_go_on_by_one_step();
+    legal_runs_go_on();
+    runs_are_bounded();
     Ok(())
 }

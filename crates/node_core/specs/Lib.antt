@@ -1,0 +1,12 @@
+pub mod Slots
+pub mod Placed
+pub mod PlacesOf
+pub mod Coding
+pub mod Seen
+pub mod Worlds
+pub mod Held
+pub mod HeldCoding
+pub mod IsRun
+pub mod Keeps
+pub mod Visits
+pub mod VisitLaws

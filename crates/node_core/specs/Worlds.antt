@@ -1,0 +1,44 @@
+-- The state of a node, as the world of the model.
+use Rattle.std.specs.Prelude.{◌≡◌, ℕ, List, [], ◌∷◌, ◌++◌, slice_get, slice_set, nat_le, if◌then◌else◌}
+use Rattle.mpc_base.specs.declared.calls.Call.{Call}
+use Rattle.mpc_base.specs.declared.answers.Answer.{Answer}
+use Rattle.mpc_base.specs.declared.answers.Out.{Out}
+use Rattle.mpc_base.specs.declared.answers.Out.TheVariants.{Did, Broke}
+use Rattle.mpc_base.specs.declared.faults.Fault.TheVariants.{Calls}
+use Rattle.run_model.specs.World.{World, TaskState}
+use Rattle.run_model.specs.Go.{Act, Does, Fails, act, answers_at, calls_limit}
+use Rattle.node_core.specs.Seen.{task_seen}
+use Rattle.node_core.specs.declared.state.State.{State}
+
+abbrev pub state_of : State → TaskState
+state_of s = task_seen s.places.made s.output.items s.exit
+
+-- the world of a state, with these answers
+abbrev pub world_seen : List (List Answer) → State → World
+world_seen answers s = record { memory = s.places.memory; tasks = state_of s ∷ []; counts = s.count ∷ []; answers = answers; last = s.last }
+
+abbrev pub answers_after : List (List Answer) → Out → List (List Answer)
+answers_after answers (Did answer) = slice_set answers 0 (answers_at (slice_get answers 0) ++ answer ∷ [])
+answers_after answers (Broke fault) = answers
+
+-- what became of a call, with what stands then
+abbrev pub outcome : State → Out → Act
+outcome s (Did answer) = Does answer s.places.memory (state_of s)
+outcome s (Broke fault) = Fails fault
+
+-- what a call does of a task that has so many entries
+abbrev pub tried : ℕ → State → Call → Act
+tried count s call = if nat_le calls_limit count then Fails Calls else act 0 s.places.memory (state_of s) call
+
+-- nothing that contracts see has changed
+pub record SameState (old new : State) : Type 0 where
+  pub places : new.places ≡ old.places
+  pub output : new.output.items ≡ old.output.items
+  pub exit : new.exit ≡ old.exit
+  pub count : new.count ≡ old.count
+  pub last : new.last ≡ old.last
+
+-- a fault has changed nothing
+abbrev pub FaultsLeave : State → State → Out → Type 0
+FaultsLeave old new (Did answer) = Unit {0}
+FaultsLeave old new (Broke fault) = SameState old new
