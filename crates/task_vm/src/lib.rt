@@ -5,6 +5,7 @@
 //! answer to it.
 #![tactic(auto)]
 
+mod arguments;
 mod asking;
 mod frames;
 mod instructions;
@@ -15,4 +16,5 @@ mod numbers;
 mod printing;
 mod scripts;
 mod stack;
+mod wishes;
 mod words;

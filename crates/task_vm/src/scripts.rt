@@ -50,6 +50,7 @@ impl Model for Found {
 /// the script and how many of its steps are taken, the index of the request, and what was found.
 #[derive(Drop)]
 pub(crate) struct Script {
+    pub(crate) alloc: Global,
     pub(crate) mpi: MpiCall,
     pub(crate) arguments: Vec<Word>,
     pub(crate) line: u32,
@@ -77,6 +78,7 @@ impl Script {
         ensures { result ≡ record { mpi = mpi; arguments = arguments.items; line = line; phase = machine.First; steps = steps_of mpi.function; index = 0; found = nothing_found } }
     {
         Script {
+            alloc,
             mpi,
             arguments,
             line,
