@@ -7,6 +7,7 @@
 
 mod arguments;
 mod asking;
+mod finds;
 mod frames;
 mod instructions;
 mod jumps;

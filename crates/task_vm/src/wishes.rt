@@ -119,4 +119,81 @@ impl Script {
         let requests = Vec::from_slice(self.alloc, &self.found.requests)?;
         Ok(want(call, Call::AnyOf { reqs: Words::of(requests) }))
     }
+
+    /// What a step wants of the arguments, for the request of the index, behind what was found.
+    pub(crate) fn wanted(&self, step: ScriptStep, call: &mut Call) -> Result<Wish, Memory>
+        ensures { IfOk result (λ r. Wishes r call.new (due.wanted self.now.mpi self.now.arguments self.now.index self.now.found step)) }
+    {
+        let words = self.arguments.as_slice();
+        let wish = match step {
+            ScriptStep::Init => want(call, Call::Init),
+            ScriptStep::Finalize => want(call, Call::Finalize),
+            ScriptStep::Abort(comm, code) => self.abort(comm, code, call),
+            ScriptStep::Rank(comm) => want(call, Call::Rank { comm: comm_at(words, comm) }),
+            ScriptStep::Size(comm) => want(call, Call::Size { comm: comm_at(words, comm) }),
+            ScriptStep::LoadComm(place) => load(call, Ok(pointer_at(words, place))),
+            ScriptStep::Arrive(c) => want(call, Call::Arrive { coll: coll_of(&self.mpi, words, &c) }),
+            ScriptStep::Leave(comm) => want(call, Call::Leave { comm: comm_at(words, comm) }),
+            ScriptStep::ArriveFree => want(call, Call::Arrive { coll: free_of(self.found.word) }),
+            ScriptStep::LeaveFree => want(call, Call::Leave { comm: self.found.word }),
+            ScriptStep::StoreWord(place) => self.store_at(place, self.found.word, call),
+            ScriptStep::StoreNullComm(place) => self.store_at(place, Word::Comm(0), call),
+            ScriptStep::Send(p) => want(call, send_of(&self.mpi, words, p, false)),
+            ScriptStep::SyncSend(p) => want(call, send_of(&self.mpi, words, p, true)),
+            ScriptStep::Recv(p) => want(call, recv_of(&self.mpi, words, p)),
+            ScriptStep::Complete => want(call, Call::Complete { req: self.found.request }),
+            ScriptStep::CompleteEarlier => want(call, Call::Complete { req: self.found.earlier }),
+            ScriptStep::StoreRequest(place) => self.store_at(place, self.found.request, call),
+            ScriptStep::LoadRequest(target) => load(call, place_of(words, self.index, target)),
+            ScriptStep::CollectRequest(target) => load(call, place_of(words, self.index, target)),
+            ScriptStep::Test => want(call, Call::Test { req: self.found.request }),
+            ScriptStep::StoreNullRequest(target) => self.store_null(target, call),
+            ScriptStep::AnyOf => self.any_of(call)?,
+            ScriptStep::StoreNullAtIndex(place) => {
+                null_at_index(call, pointer_at(words, place), self.found.index)
+            }
+            ScriptStep::StoreIndex(place) => {
+                self.store_at(place, Word::Int(i64::from(self.found.index)), call)
+            }
+            ScriptStep::StoreFlag(place) => self.store_at(place, flag_of(self.found.status), call),
+            ScriptStep::StoreStatus(target, word) => self.store_status(target, word, call),
+            ScriptStep::Probe(peer, tag, comm) => self.probe(peer, tag, comm, call),
+            ScriptStep::Iprobe(peer, tag, comm) => self.iprobe(peer, tag, comm, call),
+            ScriptStep::LoadCount(place) => load(call, word_behind(pointer_at(words, place), 2)),
+        };
+        Ok(wish)
+    }
+
+    // A store at a place that an argument names.
+    fn store_at(&self, place: u32, word: Word, call: &mut Call) -> Wish
+        ensures { Wishes result call.new (due.Wants (Call.Store (due.pointer_at self.now.arguments place) word)) }
+    {
+        store(call, Ok(pointer_at(&self.arguments, place)), word)
+    }
+
+    fn abort(&self, comm: u32, code: u32, call: &mut Call) -> Wish
+        ensures { Wishes result call.new (due.Wants (Call.Abort (due.comm_at self.now.arguments comm) (due.number_at self.now.arguments code))) }
+    {
+        let words = self.arguments.as_slice();
+        let (comm, code) = (comm_at(words, comm), number_at(words, code));
+        want(call, Call::Abort { comm, code })
+    }
+
+    fn probe(&self, peer: u32, tag: u32, comm: u32, call: &mut Call) -> Wish
+        ensures { Wishes result call.new (due.Wants (Call.Probe (due.number_at self.now.arguments peer) (due.number_at self.now.arguments tag) (due.comm_at self.now.arguments comm))) }
+    {
+        let words = self.arguments.as_slice();
+        let (peer, tag) = (number_at(words, peer), number_at(words, tag));
+        let comm = comm_at(words, comm);
+        want(call, Call::Probe { peer, tag, comm })
+    }
+
+    fn iprobe(&self, peer: u32, tag: u32, comm: u32, call: &mut Call) -> Wish
+        ensures { Wishes result call.new (due.Wants (Call.Iprobe (due.number_at self.now.arguments peer) (due.number_at self.now.arguments tag) (due.comm_at self.now.arguments comm))) }
+    {
+        let words = self.arguments.as_slice();
+        let (peer, tag) = (number_at(words, peer), number_at(words, tag));
+        let comm = comm_at(words, comm);
+        want(call, Call::Iprobe { peer, tag, comm })
+    }
 }
