@@ -3,7 +3,7 @@ use Rattle.std.specs.Prelude.{◌≡◌, ℕ, ◌+◌, ◌∷◌, pos, Some, Non
 use Rattle.mpc_base.specs.declared.values.Word.TheVariants.{Int}
 use Rattle.mpc_base.specs.declared.calls.Call.{Call}
 use Rattle.c_tree.specs.Scripts as scripts
-use Rattle.c_code.specs.Machine.{Mach, Scripting, Stepped, Moves, Asks, script_step}
+use Rattle.c_code.specs.Machine.{Mach, Scripting, Stepped, Moves, Asks}
 use Rattle.task_vm.specs.declared.wishes.Wish.{Wish}
 use Rattle.task_vm.specs.declared.wishes.Wish.TheVariants.{Wants, Skips, Breaks}
 use Rattle.task_vm.specs.declared.wishes.Taken.{Taken}
@@ -15,8 +15,9 @@ Wishes Wants call due = due ≡ scripts.Wants call
 Wishes Skips call due = due ≡ scripts.Skips
 Wishes (Breaks fault) call due = due ≡ scripts.Breaks fault
 
--- The step of a script that was taken is the one that is due, whatever machine takes the script.
-abbrev pub Takes : Taken → Call → Scripting → Scripting → Type 0
-Takes Went call old new = (m : Mach) → script_step m old old.steps ≡ Moves (record m { script = Some new })
-Takes (Asked line) call old new = ((m : Mach) → script_step m old old.steps ≡ Asks call line) × (new ≡ old)
-Takes Ended call old new = (m : Mach) → script_step m old old.steps ≡ Moves (record m { pc = m.pc + 1; stack = Int (pos 0) ∷ m.stack; script = None })
+-- The step of a script that was taken is the one that is due, whatever machine takes the script: the script behind it,
+-- the call that is told, where the script stays as it was, or the end of the script.
+abbrev pub Takes : Taken → Call → (Mach → Stepped) → Scripting → Scripting → Type 0
+Takes Went call due old new = (m : Mach) → due m ≡ Moves (record m { script = Some new })
+Takes (Asked line) call due old new = ((m : Mach) → due m ≡ Asks call line) × (new ≡ old)
+Takes Ended call due old new = (m : Mach) → due m ≡ Moves (record m { pc = m.pc + 1; stack = Int (pos 0) ∷ m.stack; script = None })

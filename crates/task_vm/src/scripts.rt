@@ -2,17 +2,21 @@
 ghost use Rattle.std.specs.Prelude.{◌≡◌, ◌+◌, ◌<◌, ◌^◌, [], pos, IfOk, OnOk, Some, None, drop};
 ghost use Rattle.mpc_base.specs.declared.values.Word.TheVariants.{Int};
 ghost use Rattle.mpc_base.specs.declared.calls.Call.{Call};
-ghost use Rattle.c_tree.specs.Scripts.{nothing_found, found_behind, wanted};
-ghost use Rattle.c_tree.specs.MpiScripts.{steps_of};
+ghost use Rattle.c_tree.specs.Scripts.{nothing_found, number_at};
+ghost use Rattle.c_tree.specs.MpiScripts.{steps_of, each_of, last_of};
 ghost use Rattle.c_code.specs.Machine as machine;
-ghost use Rattle.c_code.specs.Machine.{Moves, arguments_on};
-ghost use Rattle.task_vm.specs.Seen.{Shows};
+ghost use Rattle.c_code.specs.Machine.{Mach, Moves, arguments_on, behind_first, part_behind, script_step, script_resume};
+ghost use Rattle.task_vm.specs.Parts.{part_of};
+ghost use Rattle.task_vm.specs.Seen.{Shows, gone_on};
+ghost use Rattle.task_vm.specs.Wishes.{Takes};
 
 use crate::machine::{Machine, Step};
-use crate::words::{comm_of, int_of, request_of};
+use crate::arguments::number_at;
+use crate::wishes::{Taken, Wish};
+use c_tree::mpi::MpiFunction;
 use c_tree::program::MpiCall;
 use c_tree::scripts::ScriptStep;
-use mpc_base::{Answer, Memory, Status, Word};
+use mpc_base::{Answer, Call, Fault, Memory, Status, Word};
 use std::alloc::{AllocError, Global};
 use std::marker::Model;
 
@@ -94,6 +98,108 @@ impl Script {
                 index: 0,
             },
         }
+    }
+
+    // Goes on to the last part.
+    fn begin_last(&mut self)
+        ensures { self.new ≡ record self.old { phase = machine.Last; steps = last_of self.old.mpi.function; index = 0 } }
+    {
+        self.phase = Phase::Last;
+        self.taken = 0;
+        self.index = 0;
+    }
+
+    // Goes on behind the first part: to the first request, or, where there is none, to the last part.
+    fn begin_requests(&mut self, call: &mut Call) -> Taken
+        ensures { Takes result call.new (λ m. behind_first m self.old (each_of self.old.mpi.function) (number_at self.old.arguments 0)) self.old self.new }
+    {
+        if self.mpi.function.each_steps().is_empty() {
+            self.begin_last();
+            return Taken::Went;
+        }
+        match u32::try_from(number_at(&self.arguments, 0)) {
+            Err(_) => {
+                *call = Call::Broke {
+                    fault: Fault::BadCount,
+                };
+                Taken::Asked(self.line)
+            }
+            Ok(0) => {
+                self.begin_last();
+                Taken::Went
+            }
+            Ok(count) => {
+                self.phase = Phase::Requests(count - 1);
+                self.taken = 0;
+                self.index = 0;
+                Taken::Went
+            }
+        }
+    }
+
+    // Goes on where no step of the present part is left.
+    fn next_part(&mut self, call: &mut Call) -> Taken
+        ensures { Takes result call.new (λ m. part_behind m self.old self.old.phase) self.old self.new }
+    {
+        match self.phase {
+            Phase::First => self.begin_requests(call),
+            Phase::Requests(0) => {
+                self.begin_last();
+                Taken::Went
+            }
+            Phase::Requests(left) => {
+                self.phase = Phase::Requests(left - 1);
+                self.taken = 0;
+                self.index += 1;
+                Taken::Went
+            }
+            Phase::Last => Taken::Ended,
+        }
+    }
+
+    /// Takes the next step.
+    pub(crate) fn step(&mut self, call: &mut Call) -> Result<Taken, Memory>
+        ensures { IfOk result (λ r. Takes r call.new (λ m. script_step m self.old self.old.steps) self.old self.new) }
+    {
+        let steps = part_of(self.mpi.function, self.phase);
+        let Some(step) = steps.get(self.taken) else {
+            return Ok(self.next_part(call));
+        };
+        match self.wanted(*step, call)? {
+            Wish::Wants => Ok(Taken::Asked(self.line)),
+            Wish::Skips => {
+                self.taken += 1;
+                Ok(Taken::Went)
+            }
+            Wish::Breaks(fault) => {
+                *call = Call::Broke { fault };
+                Ok(Taken::Asked(self.line))
+            }
+        }
+    }
+
+    /// Takes the answer to the call of the next step, where there is one.
+    pub(crate) fn resume(&mut self, answer: Answer) -> Result<(), Memory>
+        ensures { OnOk result ((m : Mach) → m.script ≡ Some self.old → gone_on m (script_resume m self.old answer self.old.steps) ≡ record m { script = Some self.new }) }
+    {
+        let steps = part_of(self.mpi.function, self.phase);
+        let Some(step) = steps.get(self.taken) else {
+            return Ok(());
+        };
+        self.found.find(*step, answer)?;
+        self.taken += 1;
+        Ok(())
+    }
+}
+
+// The steps of a part.
+fn part_of(function: MpiFunction, phase: Phase) -> &'static [ScriptStep]
+    ensures { result.now ≡ part_of function phase }
+{
+    match phase {
+        Phase::First => function.steps(),
+        Phase::Requests(_) => function.each_steps(),
+        Phase::Last => function.last_steps(),
     }
 }
 
