@@ -17,5 +17,6 @@ mod numbers;
 mod printing;
 mod scripts;
 mod stack;
+mod stepping;
 mod wishes;
 mod words;
