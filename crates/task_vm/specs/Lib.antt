@@ -2,3 +2,4 @@ pub mod Framed
 pub mod Parts
 pub mod Seen
 pub mod Wishes
+pub mod Tasks
