@@ -3,3 +3,5 @@ pub mod Parts
 pub mod Seen
 pub mod Wishes
 pub mod Tasks
+pub mod States
+pub mod Wanting

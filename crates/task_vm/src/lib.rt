@@ -17,6 +17,11 @@ mod numbers;
 mod printing;
 mod scripts;
 mod stack;
+mod states;
 mod stepping;
+mod task;
 mod wishes;
 mod words;
+
+pub use states::Want;
+pub use task::Task;
