@@ -1,5 +1,5 @@
 -- Behind the answer to a call that is not its last, a machine goes on.
-use Rattle.std.proofs.Common.{◌≡◌, ℕ, ◌^◌, ◌<◌, Bool, true, false, List, [], ◌∷◌, ◌++◌, Option, Some, None, refl, sym, ap, ◌∙◌, subst}
+use Rattle.std.proofs.Common.{◌≡◌, ℕ, true, false, List, [], ◌∷◌, ◌++◌, Option, Some, None, refl, sym, subst}
 use Rattle.std.specs.Prelude.{slice_get}
 use Rattle.mpc_base.specs.declared.values.Word.{Word}
 use Rattle.mpc_base.specs.declared.calls.Call.{Call}
@@ -14,7 +14,7 @@ use Rattle.c_tree.specs.declared.scripts.ScriptStep.{ScriptStep}
 use Rattle.c_code.specs.declared.instr.Instr.{Instr}
 use Rattle.c_code.specs.declared.instr.Instr.TheVariants as i
 use Rattle.c_code.specs.FlatCode.{FlatCode}
-use Rattle.c_code.specs.Machine.{Frame, Scripting, Mach, Stepped, Moves, Asks, Sticks, Behind, Goes, Ends, on_top, left, step_of, resume_of, way_next, fetched, fetched_resume, script_resume, step, resume}
+use Rattle.c_code.specs.Machine.{Frame, Scripting, Mach, Asks, Behind, Goes, on_top, left, step_of, resume_of, way_next, fetched, fetched_resume, script_resume, step, resume}
 use Rattle.c_code.specs.Following.{Follows, AsksNow}
 use Rattle.c_code.proofs.Following.{follows_answered}
 use Rattle.task_vm.specs.Seen.{IsPlaced, gone_on}

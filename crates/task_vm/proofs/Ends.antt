@@ -1,6 +1,6 @@
 -- The end of a list is the front of the list turned round.
-use Rattle.std.proofs.Common.{◌≡◌, ℕ, zero, suc, ◌+◌, ◌-◌, ◌<◌, ◌≤◌, ◌⊎◌, inl, inr, List, [], ◌∷◌, ◌++◌, length, refl, sym, ap, ◌∙◌, subst, take, drop, reverse, slice_set, set, arith, length-drop, length-append}
-use Rattle.std.proofs.lemmas.List.{reverse-append, reverse-reverse, length-reverse, take-append-drop, drop_all, take_all, set_split, drop-take}
+use Rattle.std.proofs.Common.{◌≡◌, ℕ, suc, ◌+◌, ◌-◌, ◌<◌, ◌≤◌, ◌⊎◌, inl, inr, List, [], ◌∷◌, ◌++◌, length, sym, ap, ◌∙◌, take, drop, reverse, set, arith, length-drop}
+use Rattle.std.proofs.lemmas.List.{reverse-append, reverse-reverse, length-reverse, take-append-drop, drop_all, take_all, set_split}
 use Rattle.std.proofs.Math.Seq.{take-append_seam, drop-append_seam}
 
 module _ {A : Type 0} (l : List A) (n k : ℕ) (e : k ≡ length l - n) where

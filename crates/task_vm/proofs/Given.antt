@@ -1,19 +1,17 @@
 -- A task that is given an answer, and one that begins.
-use Rattle.std.proofs.Common.{◌≡◌, ℕ, Bool, true, false, List, [], ◌∷◌, ◌++◌, Some, refl, sym, ap, ◌∙◌, subst}
+use Rattle.std.proofs.Common.{◌≡◌, false, List, [], ◌∷◌, ◌++◌, Some, refl, sym, subst}
 use Rattle.std.specs.Prelude.{slice_get}
-use Rattle.mpc_base.specs.declared.calls.Call.{Call}
 use Rattle.mpc_base.specs.declared.answers.Answer.{Answer}
 use Rattle.c_code.specs.declared.code.Entry.{Entry}
 use Rattle.c_code.specs.FlatCode.{FlatCode}
 use Rattle.c_code.specs.Machine.{Mach}
 use Rattle.c_code.specs.Demands.{begins, turn_limit}
-use Rattle.c_code.specs.Following.{Follows, AsksNow}
+use Rattle.c_code.specs.Following.{Follows}
 use Rattle.c_code.proofs.Following.{follows_begun}
-use Rattle.task_vm.specs.Seen.{IsPlaced, gone_on}
-use Rattle.task_vm.specs.Tasks.{Tasked, HasHad, ends_task, Awaits}
-use Rattle.task_vm.specs.States.{IsReached, IsSound, behind_answer, tasked}
-use Rattle.task_vm.specs.declared.states.State.{State}
-use Rattle.task_vm.specs.declared.states.State.TheVariants.{Ready, Asked, Answered, Over, Short}
+use Rattle.task_vm.specs.Seen.{IsPlaced}
+use Rattle.task_vm.specs.Tasks.{ends_task, Awaits}
+use Rattle.task_vm.specs.States.{IsSound, behind_answer, tasked}
+use Rattle.task_vm.specs.declared.states.State.TheVariants.{Ready, Asked, Answered}
 use Rattle.task_vm.proofs.Answered.{answered, answered_placed}
 
 module _ (code : FlatCode) (m : Mach) (a : Answer) (sound : IsSound code m (Asked false)) (awaits : Awaits (tasked code m (Asked false)) a) where

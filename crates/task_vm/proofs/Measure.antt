@@ -5,7 +5,6 @@ use Rattle.std.specs.Int.{int_wrap, w32}
 use Rattle.std.proofs.lemmas.Int.{SFits-int_wrap}
 use Rattle.mpc_base.specs.declared.values.Word.{Word}
 use Rattle.mpc_base.specs.declared.values.Word.TheVariants.{Undef, Int, Null, Ptr, Comm, Req}
-use Rattle.mpc_base.specs.declared.calls.Call.{Call}
 use Rattle.mpc_base.specs.declared.faults.Fault.{Fault}
 use Rattle.mpc_base.specs.declared.faults.Fault.TheVariants as fault
 use Rattle.c_tree.specs.declared.mpi.MpiFunction.{MpiFunction}

@@ -1,14 +1,14 @@
 -- Steps of a task on its way to the next call.
-use Rattle.std.proofs.Common.{◌≡◌, ℕ, ◌<◌, ◌^◌, Bool, true, false, List, [], ◌∷◌, ◌++◌, Option, Some, None, refl, sym, ap, ◌∙◌, subst}
+use Rattle.std.proofs.Common.{◌≡◌, ◌<◌, ◌^◌, Bool, List, Option, sym, subst}
 use Rattle.mpc_base.specs.declared.calls.Call.{Call}
 use Rattle.mpc_base.specs.declared.answers.Answer.{Answer}
 use Rattle.c_code.specs.FlatCode.{FlatCode}
-use Rattle.c_code.specs.Machine.{Mach, Stepped, Moves, Asks, Sticks, step}
-use Rattle.c_code.specs.Following.{Follows, AsksNow, NeverSticks}
+use Rattle.c_code.specs.Machine.{Mach, Moves, step}
+use Rattle.c_code.specs.Following.{Follows, NeverSticks}
 use Rattle.c_code.proofs.Following.{follows_moved, follows_unstuck, asks_demanded}
 use Rattle.task_vm.specs.declared.machine.Step.{Step}
 use Rattle.task_vm.specs.declared.machine.Step.TheVariants as s
-use Rattle.task_vm.specs.Seen.{Shows, IsNear, IsPlaced}
+use Rattle.task_vm.specs.Seen.{Shows, IsNear}
 use Rattle.task_vm.specs.Tasks.{Tasked, HasHad}
 use Rattle.task_vm.specs.States.{IsReached, behind_answer, pending_of, tasked}
 use Rattle.task_vm.specs.Wanting.{WantsNow, IsWanting, DemandsWant}

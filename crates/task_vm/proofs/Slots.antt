@@ -1,11 +1,9 @@
 -- The slots of the functions that are open.
-use Rattle.std.proofs.Common.{◌≡◌, ℕ, suc, ◌+◌, ◌-◌, List, [], ◌∷◌, ◌++◌, length, refl, sym, ap, ◌∙◌, take, drop, set, replicate, arith, length-append}
-use Rattle.std.proofs.lemmas.List.{take_all, take-set-le, drop-set-add}
+use Rattle.std.proofs.Common.{◌≡◌, ℕ, suc, ◌+◌, List, [], ◌∷◌, length, refl, ap, ◌∙◌, take, drop, set, arith}
+use Rattle.std.proofs.lemmas.List.{take-set-le, drop-set-add}
 use Rattle.mpc_base.specs.declared.values.Word.{Word}
-use Rattle.mpc_base.specs.declared.values.Word.TheVariants.{Undef}
-use Rattle.c_tree.specs.Execution.{slots_of}
 use Rattle.task_vm.specs.declared.frames.Caller.{Caller}
-use Rattle.task_vm.specs.Framed.{Framed, frames_in, framed}
+use Rattle.task_vm.specs.Framed.{frames_in, framed}
 
 -- as many frames as calls that wait
 pub length-frames_in : (callers : List Caller) (all : List Word) → length (frames_in callers all) ≡ length callers

@@ -89,7 +89,13 @@ impl Frames {
 
     /// Opens a function with so many slots and these arguments, called at a line; it goes on at a place
     /// when it returns.
-    pub(crate) fn enter(&mut self, pc: usize, line: u32, slots: u32, arguments: &[Word]) -> Result<(), Memory>
+    pub(crate) fn enter(
+        &mut self,
+        pc: usize,
+        line: u32,
+        slots: u32,
+        arguments: &[Word],
+    ) -> Result<(), Memory>
         ensures { OnOk result (self.new ≡ record { slots = slots_of slots arguments.now; frames = record { pc = pc; slots = self.old.slots; line = line } ∷ self.old.frames }) }
     {
         let Ok(base) = u32::try_from(self.slots.len()) else {

@@ -65,19 +65,49 @@ impl Machine {
             Instr::NewParam { .. } => Ok(self.new_param(call)),
             Instr::StoreParam { slot } => Ok(self.store_param(*slot, call)),
             Instr::HlsEnter { construct, line } => {
-                Ok(ask(call, Call::HlsEnter { construct: *construct }, *line))
+                Ok(ask(
+                    call,
+                    Call::HlsEnter {
+                        construct: *construct,
+                    },
+                    *line,
+                ))
             }
             Instr::HlsWait { construct, line } => {
-                Ok(ask(call, Call::HlsWait { construct: *construct }, *line))
+                Ok(ask(
+                    call,
+                    Call::HlsWait {
+                        construct: *construct,
+                    },
+                    *line,
+                ))
             }
             Instr::HlsExit { construct, line } => {
-                Ok(ask(call, Call::HlsExit { construct: *construct }, *line))
+                Ok(ask(
+                    call,
+                    Call::HlsExit {
+                        construct: *construct,
+                    },
+                    *line,
+                ))
             }
             Instr::HlsBar { construct, line } => {
-                Ok(ask(call, Call::HlsBar { construct: *construct }, *line))
+                Ok(ask(
+                    call,
+                    Call::HlsBar {
+                        construct: *construct,
+                    },
+                    *line,
+                ))
             }
             Instr::HlsBarWait { construct, line } => {
-                Ok(ask(call, Call::HlsBarWait { construct: *construct }, *line))
+                Ok(ask(
+                    call,
+                    Call::HlsBarWait {
+                        construct: *construct,
+                    },
+                    *line,
+                ))
             }
             Instr::Missing { line } => Ok(breaks(call, Fault::Uninit, *line)),
             Instr::Return { line } => Ok(self.leave(*line, call)),

@@ -10,8 +10,8 @@ ghost use Rattle.task_vm.specs.Parts.{part_of};
 ghost use Rattle.task_vm.specs.Seen.{Shows, gone_on};
 ghost use Rattle.task_vm.specs.Wishes.{Takes};
 
-use crate::machine::{Machine, Step};
 use crate::arguments::number_at;
+use crate::machine::{Machine, Step};
 use crate::wishes::{Taken, Wish};
 use c_tree::mpi::MpiFunction;
 use c_tree::program::MpiCall;

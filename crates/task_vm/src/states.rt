@@ -7,10 +7,7 @@ use mpc_base::{Answer, Call};
 /// What a task wants when it stops: a call, at a source line.
 #[derive(Debug, Drop)]
 pub enum Want {
-    Ask {
-        call: Call,
-        line: u32,
-    },
+    Ask { call: Call, line: u32 },
 }
 
 /// Where a task stands: it runs; it asked a call, which may be its last; it has an answer that its machine
@@ -18,9 +15,7 @@ pub enum Want {
 #[derive(Clone, Copy, Debug)]
 pub(crate) enum State {
     Ready,
-    Asked {
-        ends: bool,
-    },
+    Asked { ends: bool },
     Answered(Answer),
     Over,
     Short,

@@ -4,7 +4,9 @@ ghost use Rattle.mpc_base.specs.declared.values.Word.TheVariants.{Req};
 ghost use Rattle.c_tree.specs.Scripts as due;
 ghost use Rattle.task_vm.specs.Wishes.{Wishes};
 
-use crate::arguments::{coll_of, comm_at, free_of, number_at, place_of, pointer_at, recv_of, send_of, word_behind};
+use crate::arguments::{
+    coll_of, comm_at, free_of, number_at, place_of, pointer_at, recv_of, send_of, word_behind,
+};
 use crate::scripts::Script;
 use crate::words::moved;
 use c_tree::scripts::{ScriptStep, Target};
@@ -108,7 +110,11 @@ impl Script {
     {
         match self.found.status {
             None => Wish::Skips,
-            Some(_) => store(call, place_of(&self.arguments, self.index, target), Word::Req(0)),
+            Some(_) => store(
+                call,
+                place_of(&self.arguments, self.index, target),
+                Word::Req(0),
+            ),
         }
     }
 
@@ -117,7 +123,12 @@ impl Script {
         ensures { IfOk result (λ r. Wishes r call.new (due.Wants (Call.AnyOf self.now.found.requests))) }
     {
         let requests = Vec::from_slice(self.alloc, &self.found.requests)?;
-        Ok(want(call, Call::AnyOf { reqs: Words::of(requests) }))
+        Ok(want(
+            call,
+            Call::AnyOf {
+                reqs: Words::of(requests),
+            },
+        ))
     }
 
     /// What a step wants of the arguments, for the request of the index, behind what was found.
@@ -129,24 +140,69 @@ impl Script {
             ScriptStep::Init => want(call, Call::Init),
             ScriptStep::Finalize => want(call, Call::Finalize),
             ScriptStep::Abort(comm, code) => self.abort(comm, code, call),
-            ScriptStep::Rank(comm) => want(call, Call::Rank { comm: comm_at(words, comm) }),
-            ScriptStep::Size(comm) => want(call, Call::Size { comm: comm_at(words, comm) }),
+            ScriptStep::Rank(comm) => want(
+                call,
+                Call::Rank {
+                    comm: comm_at(words, comm),
+                },
+            ),
+            ScriptStep::Size(comm) => want(
+                call,
+                Call::Size {
+                    comm: comm_at(words, comm),
+                },
+            ),
             ScriptStep::LoadComm(place) => load(call, Ok(pointer_at(words, place))),
-            ScriptStep::Arrive(c) => want(call, Call::Arrive { coll: coll_of(&self.mpi, words, &c) }),
-            ScriptStep::Leave(comm) => want(call, Call::Leave { comm: comm_at(words, comm) }),
-            ScriptStep::ArriveFree => want(call, Call::Arrive { coll: free_of(self.found.word) }),
-            ScriptStep::LeaveFree => want(call, Call::Leave { comm: self.found.word }),
+            ScriptStep::Arrive(c) => want(
+                call,
+                Call::Arrive {
+                    coll: coll_of(&self.mpi, words, &c),
+                },
+            ),
+            ScriptStep::Leave(comm) => want(
+                call,
+                Call::Leave {
+                    comm: comm_at(words, comm),
+                },
+            ),
+            ScriptStep::ArriveFree => want(
+                call,
+                Call::Arrive {
+                    coll: free_of(self.found.word),
+                },
+            ),
+            ScriptStep::LeaveFree => want(
+                call,
+                Call::Leave {
+                    comm: self.found.word,
+                },
+            ),
             ScriptStep::StoreWord(place) => self.store_at(place, self.found.word, call),
             ScriptStep::StoreNullComm(place) => self.store_at(place, Word::Comm(0), call),
             ScriptStep::Send(p) => want(call, send_of(&self.mpi, words, p, false)),
             ScriptStep::SyncSend(p) => want(call, send_of(&self.mpi, words, p, true)),
             ScriptStep::Recv(p) => want(call, recv_of(&self.mpi, words, p)),
-            ScriptStep::Complete => want(call, Call::Complete { req: self.found.request }),
-            ScriptStep::CompleteEarlier => want(call, Call::Complete { req: self.found.earlier }),
+            ScriptStep::Complete => want(
+                call,
+                Call::Complete {
+                    req: self.found.request,
+                },
+            ),
+            ScriptStep::CompleteEarlier => want(
+                call,
+                Call::Complete {
+                    req: self.found.earlier,
+                },
+            ),
             ScriptStep::StoreRequest(place) => self.store_at(place, self.found.request, call),
             ScriptStep::LoadRequest(target) => load(call, place_of(words, self.index, target)),
             ScriptStep::CollectRequest(target) => load(call, place_of(words, self.index, target)),
-            ScriptStep::Test => want(call, Call::Test { req: self.found.request }),
+            ScriptStep::Test => want(
+                call,
+                Call::Test {
+                    req: self.found.request,
+                },
+            ),
             ScriptStep::StoreNullRequest(target) => self.store_null(target, call),
             ScriptStep::AnyOf => self.any_of(call)?,
             ScriptStep::StoreNullAtIndex(place) => {

@@ -9,10 +9,10 @@ pub loop-call-preserved : goal.loop-call-preserved
 loop-call-preserved c = record {
   lives = c.loop-call.invariant.lives;
   reached = reached c.args.code.now c.loop-call.machine c.step.new.self c.step.new.call c.in_ok-step.field-0 c.in_ok-step.ensures.shows c.in_ok-step.ensures.near c.in-Went.is
-  c.loop-call.invariant.reached;
+      c.loop-call.invariant.reached;
   follows = λ given f.
-  follows c.args.code.now c.loop-call.machine c.step.new.self c.step.new.call c.in_ok-step.field-0 c.in_ok-step.ensures.shows c.in_ok-step.ensures.near c.in-Went.is
-  given (c.loop-call.invariant.follows given f);
+      follows c.args.code.now c.loop-call.machine c.step.new.self c.step.new.call c.in_ok-step.field-0 c.in_ok-step.ensures.shows c.in_ok-step.ensures.near c.in-Went.is
+      given (c.loop-call.invariant.follows given f);
 }
 
 pub unreachable-requires : goal.unreachable-requires

@@ -1,4 +1,4 @@
-use Rattle.std.proofs.Common.{rules, ◌≡◌, sym, ◌∙◌, length, reverse}
+use Rattle.std.proofs.Common.{rules, ◌≡◌, sym, ◌∙◌, length}
 use Rattle.std.proofs.lemmas.List.{length-reverse}
 use Rattle.task_vm.proofs.Slots.{length-frames_in}
 use Rattle.task_vm.proofs.frames.Frames.depth.Goals as goal

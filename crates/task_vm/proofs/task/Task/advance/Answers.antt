@@ -1,9 +1,7 @@
-use Rattle.std.proofs.Common.{◌≡◌, List, sym, ap, ◌∙◌, subst}
+use Rattle.std.proofs.Common.{sym, ap, subst}
 use Rattle.std.specs.Arc.{arc_value}
-use Rattle.mpc_base.specs.declared.answers.Answer.{Answer}
 use Rattle.c_code.specs.FlatCode.{FlatCode}
 use Rattle.c_code.specs.Following.{Follows}
-use Rattle.task_vm.specs.Tasks.{HasHad}
 use Rattle.task_vm.specs.States.{behind_answer}
 use Rattle.task_vm.specs.Wanting.{WantsNow, DemandsWant}
 use Rattle.task_vm.proofs.Runs.{wanting, demanding, had}

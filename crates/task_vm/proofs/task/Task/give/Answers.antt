@@ -1,4 +1,4 @@
-use Rattle.std.proofs.Common.{◌≡◌, List, refl, sym, ap, ◌∙◌, subst, false}
+use Rattle.std.proofs.Common.{◌≡◌, sym, ap, ◌∙◌, subst, false}
 use Rattle.std.specs.Arc.{arc_value}
 use Rattle.task_vm.specs.Tasks.{Tasked, HasHad, Awaits}
 use Rattle.task_vm.specs.States.{IsSound, tasked}

@@ -1,5 +1,4 @@
-use Rattle.std.proofs.Common.{List, [], subst}
-use Rattle.mpc_base.specs.declared.answers.Answer.{Answer}
+use Rattle.std.proofs.Common.{[], subst}
 use Rattle.c_code.specs.FlatCode.{FlatCode}
 use Rattle.c_code.specs.Following.{Follows}
 use Rattle.task_vm.specs.States.{IsSound}
