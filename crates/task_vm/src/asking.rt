@@ -1,8 +1,8 @@
 //! Instructions that ask a call.
-ghost use Rattle.std.specs.Prelude.{◌≡◌, ◌+◌, ◌-◌, ◌<◌, ◌^◌, ◌∷◌, IfOk, slice_index_or};
+ghost use Rattle.std.specs.Prelude.{◌≡◌, IfOk, slice_index_or};
 ghost use Rattle.mpc_base.specs.declared.values.Word.TheVariants.{Undef};
 ghost use Rattle.mpc_base.specs.declared.calls.Call.TheVariants as call_;
-ghost use Rattle.c_tree.specs.declared.program.Width.TheVariants as type_;
+ghost use Rattle.c_tree.specs.declared.program.Width.TheVariants.{Long};
 ghost use Rattle.c_tree.specs.Numbers.{number_of};
 ghost use Rattle.c_tree.specs.Words as of_words;
 ghost use Rattle.c_tree.specs.Execution.{object_of};
@@ -44,7 +44,7 @@ impl Machine {
     }
 
     pub(crate) fn malloc(&self, size: u32, line: u32, call: &mut Call) -> Step
-        ensures { Shows result call.new (on_top self.now.stack (λ n ws. Asks (call_.Malloc (of_words.malloc_words size (number_of type_.Long n))) line)) self.now self.now }
+        ensures { Shows result call.new (on_top self.now.stack (λ n ws. Asks (call_.Malloc (of_words.malloc_words size (number_of Long n))) line)) self.now self.now }
     {
         let Some(bytes) = self.stack.top() else {
             return Step::Stuck;

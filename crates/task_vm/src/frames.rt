@@ -1,8 +1,7 @@
 //! The slots of the functions that are open.
-ghost use Rattle.std.specs.Prelude.{◌≡◌, ◌+◌, [], ◌∷◌, ◌++◌, length, slice_set, slice_index_or, OnOk, IfOk, IfSome, IfNone, MatchOption};
+ghost use Rattle.std.specs.Prelude.{◌≡◌, [], ◌∷◌, ◌++◌, length, slice_set, slice_index_or, OnOk, IfOk, IfSome, IfNone};
 ghost use Rattle.mpc_base.specs.declared.values.Word.TheVariants.{Undef};
 ghost use Rattle.c_tree.specs.Execution.{slots_of};
-ghost use Rattle.task_vm.specs.Framed.{Framed};
 
 use mpc_base::{Memory, Word};
 use std::alloc::{AllocError, Global};

@@ -45,14 +45,14 @@ impl Machine {
             return Step::Stuck;
         };
         if !holds(word) {
-            self.stack.drop_top(1);
+            let _ = self.stack.pop();
             self.pc += 1;
             return Step::Went;
         }
         if self.turns == 0 {
             return breaks(call, Fault::Turns, line);
         }
-        self.stack.drop_top(1);
+        let _ = self.stack.pop();
         self.turns -= 1;
         self.pc = self.pc.saturating_sub(back as usize);
         Step::Went

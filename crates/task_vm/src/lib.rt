@@ -1,8 +1,12 @@
 //! The task machine: it runs the code of a program to its next call, and takes the answer.
 //!
-//! `Task` keeps a machine as `c_code` defines it. `advance` takes the machine's steps up to the next
-//! call, which is what the code demands behind the answers that the task has had, and `give` takes the
-//! answer to it.
+//! - `Task::new` begins a task that has had no answer.
+//! - `Task::advance` takes steps up to the next call, which is what the code demands behind the answers
+//!   that the task has had. It always comes to one, or is short of memory, and stays short then.
+//! - `Task::give` takes the answer to that call.
+//!
+//! A task keeps a machine as `c_code` defines it (`specs/Tasks.antt`), and each of its steps is one of
+//! those definitions. Steps that ask nothing take no memory but for the stack's growth.
 #![tactic(auto)]
 
 mod arguments;

@@ -1,6 +1,5 @@
 //! The machine between two steps.
 ghost use Rattle.std.specs.Prelude.{◌≡◌, ◌+◌, ◌≤◌, ◌<◌, ◌^◌, ◌∷◌, length, drop, OnOk};
-ghost use Rattle.c_tree.specs.declared.program.Width.TheVariants as width;
 
 use crate::frames::Frames;
 use crate::scripts::Script;

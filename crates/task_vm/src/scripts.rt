@@ -1,6 +1,5 @@
 //! The script of an MPI function that is being taken.
-ghost use Rattle.std.specs.Prelude.{◌≡◌, ◌+◌, ◌<◌, ◌^◌, [], pos, IfOk, OnOk, Some, None, drop};
-ghost use Rattle.mpc_base.specs.declared.values.Word.TheVariants.{Int};
+ghost use Rattle.std.specs.Prelude.{◌≡◌, Some, IfOk, OnOk, drop};
 ghost use Rattle.mpc_base.specs.declared.calls.Call.{Call};
 ghost use Rattle.c_tree.specs.Scripts.{nothing_found, number_at};
 ghost use Rattle.c_tree.specs.MpiScripts.{steps_of, each_of, last_of};

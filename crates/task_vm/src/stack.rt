@@ -1,5 +1,5 @@
 //! The stack of words.
-ghost use Rattle.std.specs.Prelude.{◌≡◌, ◌≤◌, [], ◌∷◌, length, drop, reverse, take, OnOk, IfOk, IfSome, IfNone, MatchOption};
+ghost use Rattle.std.specs.Prelude.{◌≡◌, ◌≤◌, [], ◌∷◌, length, drop, reverse, take, OnOk, IfSome, IfNone, MatchOption};
 
 use mpc_base::{Memory, Word};
 use std::alloc::{AllocError, Global};
@@ -78,7 +78,7 @@ impl Stack {
         requires { 2 ≤ length self.old }
         ensures { self.new ≡ word ∷ drop 2 self.old }
     {
-        self.drop_top(1);
+        let _ = self.pop();
         self.replace(word);
     }
 

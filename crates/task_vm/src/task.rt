@@ -1,5 +1,5 @@
 //! A task that runs code.
-ghost use Rattle.std.specs.Prelude.{◌≡◌, ℕ, Bool, true, false, List, [], ◌∷◌, ◌++◌, Some, IfOk, OnOk, OnErr, IsErr, slice_get};
+ghost use Rattle.std.specs.Prelude.{◌≡◌, ℕ, true, false, List, [], ◌∷◌, ◌++◌, Some, IfOk, OnOk, OnErr, IsErr, slice_get};
 ghost use Rattle.std.specs.Arc.{arc_value};
 ghost use Rattle.mpc_base.specs.declared.calls.Call.{Call};
 ghost use Rattle.mpc_base.specs.declared.answers.Answer.{Answer};

@@ -1,5 +1,5 @@
 //! What a step of a script wants.
-ghost use Rattle.std.specs.Prelude.{◌≡◌, IfOk, Some, None, Ok, pos};
+ghost use Rattle.std.specs.Prelude.{◌≡◌, IfOk};
 ghost use Rattle.mpc_base.specs.declared.values.Word.TheVariants.{Req};
 ghost use Rattle.c_tree.specs.Scripts as due;
 ghost use Rattle.task_vm.specs.Wishes.{Wishes};
