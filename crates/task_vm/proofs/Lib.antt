@@ -4,3 +4,4 @@ pub mod Measure
 pub mod Answered
 pub mod Given
 pub mod Runs
+pub mod Sample

@@ -5,3 +5,4 @@ pub mod Wishes
 pub mod Tasks
 pub mod States
 pub mod Wanting
+pub mod Sample

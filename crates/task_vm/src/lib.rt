@@ -29,3 +29,6 @@ mod words;
 
 pub use states::Want;
 pub use task::Task;
+
+#[cfg(test)]
+mod tests;
