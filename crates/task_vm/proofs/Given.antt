@@ -1,5 +1,5 @@
 -- A task that is given an answer, and one that begins.
-use Rattle.std.proofs.Common.{◌≡◌, false, List, [], ◌∷◌, ◌++◌, Some, refl, sym, subst}
+use Rattle.std.proofs.Common.{◌≡◌, Bool, false, List, [], ◌∷◌, ◌++◌, Some, refl, sym, ap, ◌∙◌, subst}
 use Rattle.std.specs.Prelude.{slice_get}
 use Rattle.mpc_base.specs.declared.answers.Answer.{Answer}
 use Rattle.c_code.specs.declared.code.Entry.{Entry}
@@ -9,24 +9,41 @@ use Rattle.c_code.specs.Demands.{begins, turn_limit}
 use Rattle.c_code.specs.Following.{Follows}
 use Rattle.c_code.proofs.Following.{follows_begun}
 use Rattle.task_vm.specs.Seen.{IsPlaced}
-use Rattle.task_vm.specs.Tasks.{ends_task, Awaits}
+use Rattle.task_vm.specs.Tasks.{Tasked, HasHad, ends_task, Awaits}
+use Rattle.task_vm.specs.declared.states.State.{State}
 use Rattle.task_vm.specs.States.{IsSound, behind_answer, tasked}
 use Rattle.task_vm.specs.declared.states.State.TheVariants.{Ready, Asked, Answered}
 use Rattle.task_vm.proofs.Answered.{answered, answered_placed}
 
-module _ (code : FlatCode) (m : Mach) (a : Answer) (sound : IsSound code m (Asked false)) (awaits : Awaits (tasked code m (Asked false)) a) where
-  more : ends_task awaits.call ≡ false
-  more = sound.ending awaits.call awaits.line awaits.asks
+module _ (code : FlatCode) (m : Mach) (state : State) (ends : Bool) (task : Tasked) (a : Answer)
+    (is : state ≡ Asked ends) (last : ends ≡ false) (seen : tasked code m state ≡ task) (sound : IsSound code m state) (awaits : Awaits task a) where
+  asked : state ≡ Asked false
+  asked = is ∙ ap (λ b. Asked b) last
+
+  sound' : IsSound code m (Asked false)
+  sound' = subst (λ (s : State). IsSound code m s) asked sound
+
+  kept : tasked code m (Asked false) ≡ task
+  kept = sym (ap (λ (s : State). tasked code m s) asked) ∙ seen
+
+  awaits' : Awaits (tasked code m (Asked false)) a
+  awaits' = subst (λ (t : Tasked). Awaits t a) (sym kept) awaits
+
+  more : ends_task awaits'.call ≡ false
+  more = sound'.ending awaits'.call awaits'.line awaits'.asks
+
+  one_more : (given : List Answer) → Follows code given m → Follows code (given ++ a ∷ []) (behind_answer code m (Some a))
+  one_more given f = answered code given m awaits'.call awaits'.line a f awaits'.asks awaits'.fitting more
 
   -- it has had one answer more
-  pub has_had : (given : List Answer) → Follows code given m → Follows code (given ++ a ∷ []) (behind_answer code m (Some a))
-  has_had given f = answered code given m awaits.call awaits.line a f awaits.asks awaits.fitting more
+  pub has_had : (given : List Answer) → HasHad task given → Follows code (given ++ a ∷ []) (behind_answer code m (Some a))
+  has_had given h = one_more given (subst (λ (t : Tasked). HasHad t given) (sym kept) h)
 
   pub still_sound : IsSound code m (Answered a)
   still_sound =
-      let r = sound.reached refl refl in
+      let r = sound'.reached refl refl in
       record {
-        reached = λ s o. record { given = r.given ++ a ∷ []; follows = has_had r.given r.follows; placed = answered_placed code m a r.placed };
+        reached = λ s o. record { given = r.given ++ a ∷ []; follows = one_more r.given r.follows; placed = answered_placed code m a r.placed };
         ending = tt;
       }
 
