@@ -62,6 +62,7 @@ impl Machine {
         ask(call, Call::Free { at: place }, line)
     }
 
+    #[inline(never)]
     pub(crate) fn print(&self, print: &Printed, line: u32, call: &mut Call) -> Result<Step, Memory>
         ensures { IfOk result (λ r. Shows r call.new (Asks (call_.Print (of_words.printed print.now.format (arguments_on print.now.count self.now.stack))) line) self.now self.now) }
     {

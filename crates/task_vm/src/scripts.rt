@@ -204,6 +204,7 @@ fn part_of(function: MpiFunction, phase: Phase) -> &'static [ScriptStep]
 
 impl Machine {
     /// Begins the script of a function with the arguments on the stack.
+    #[inline(never)]
     pub(crate) fn begin(&mut self, mpi: MpiCall, count: u32, line: u32) -> Result<Step, Memory>
         ensures { IfOk result (λ r. (call : Call) → Shows r call (Moves (record self.old {
           stack = drop count self.old.stack;

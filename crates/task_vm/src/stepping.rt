@@ -14,7 +14,9 @@ use c_code::{Code, Instr};
 use mpc_base::{Answer, Call, Memory, Way, Word};
 
 impl Machine {
-    // Takes a step of the script that is being taken.
+    // Takes a step of the script that is being taken. It stands apart, as all that is rare or long does, so that
+    // the step of an instruction becomes part of the loop that takes steps.
+    #[inline(never)]
     fn take_script(&mut self, call: &mut Call) -> Result<Step, Memory>
         requires { IsPlaced self.old.script self.old.pc }
         ensures { IfOk result (λ r. (s : Scripting) → self.old.script ≡ Some s → Shows r call.new (script_step self.old s s.steps) self.old self.new) }
