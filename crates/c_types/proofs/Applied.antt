@@ -1,5 +1,5 @@
 -- Calls with their arguments.
-use Rattle.std.proofs.Common.{◌≡◌, Bool, List, refl, sym, ap, ◌∙◌, subst, Vec, Global, Result, Ok, Err}
+use Rattle.std.proofs.Common.{◌≡◌, Bool, List, refl, ap, ◌∙◌, subst, Vec, Global, Result, Ok}
 use Rattle.c_tree.specs.declared.mpi.MpiFunction.{MpiFunction}
 use Rattle.c_tree.specs.declared.mpi.MpiFunction.TheVariants as function
 use Rattle.c_tree.specs.declared.mpi.Argument.{Argument}
@@ -7,7 +7,7 @@ use Rattle.c_tree.specs.declared.program.Callee.{Callee}
 use Rattle.c_tree.specs.declared.program.Expr.{Expr}
 use Rattle.c_tree.specs.declared.program.Expr.TheVariants.{Apply}
 use Rattle.c_tree.specs.MpiTable.{arguments_of}
-use Rattle.c_tree.specs.ProgramOf.{expr_of, exprs_of}
+use Rattle.c_tree.specs.ProgramOf.{expr_of}
 use Rattle.c_tree.specs.Programs as p
 use Rattle.c_tree.specs.Syntax.{Exprs}
 use Rattle.c_tree.proofs.ProgramRows.{apply_is}

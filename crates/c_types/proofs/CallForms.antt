@@ -1,5 +1,5 @@
 -- What is found of a call, by what it is a call of.
-use Rattle.std.proofs.Common.{◌≡◌, ℕ, suc, zero, List, [], ◌∷◌, refl, sym, ap, ◌∙◌, subst, Vec, Global, Option, None, Some, Result, drop, slice_get}
+use Rattle.std.proofs.Common.{◌≡◌, ℕ, List, [], ◌∷◌, refl, sym, ap, ◌∙◌, subst, Vec, Global, Option, None, Some, Result, drop, slice_get}
 use Rattle.c_tree.specs.declared.syntax.Base.{Base}
 use Rattle.c_tree.specs.declared.syntax.Place.{Place}
 use Rattle.c_tree.specs.declared.syntax.Expr as x
@@ -23,12 +23,11 @@ use Rattle.c_types.specs.declared.kinds.Kind.{Kind}
 use Rattle.c_types.specs.declared.kinds.Known.TheVariants as a_known
 use Rattle.c_types.specs.declared.refusals.TypeRefusal.{TypeRefusal}
 use Rattle.c_types.specs.declared.shapes.CallShape.TheVariants as call
-use Rattle.c_types.specs.declared.shapes.Shape.{Shape}
 use Rattle.c_types.specs.declared.shapes.Shape.TheVariants as shape
 use Rattle.c_types.specs.Answers.{Makes, MakesAll, called_by, row_fault, row_made}
 use Rattle.c_types.specs.Calls.{meaning, call_shape, own_shape, mpi_shape, prints_all, is_one_number, is_one_pointer, looked_at, Every, Expressions}
 use Rattle.c_types.specs.Env.{Env}
-use Rattle.c_types.specs.Expressions.{shape_of, kind_of, kinds, givens, outline, argument_outline}
+use Rattle.c_types.specs.Expressions.{kind_of, kinds, givens, outline, argument_outline}
 use Rattle.c_types.specs.Nodes.{first_of, blame}
 use Rattle.c_types.specs.Rules.{rule, kind}
 use Rattle.c_types.specs.Typed.{typed, passed, passing, call_made, mpi_call, own_params, own_number, format_of, element_size, first_of_all, undefined, row_of, Own, Row, Format, Nothing}

@@ -1,6 +1,6 @@
 -- How a draft of a format grows.
 use Rattle.std.proofs.lemmas.Bool.{false≢true}
-use Rattle.std.proofs.Common.{rules, tests, arith, eq-eqb, ◌==◌, Vec, Global, vec_len, ◌≡◌, ℕ, Bool, true, false, cond, nat_eq, List, [], ◌∷◌, ◌++◌, Option, None, Some, option_map, refl, sym, ap, ◌∙◌, append_assoc, length, drop, get_or, ◌<◌, ◌+◌}
+use Rattle.std.proofs.Common.{rules, tests, arith, eq-eqb, ◌==◌, Vec, Global, vec_len, ◌≡◌, ℕ, Bool, false, cond, nat_eq, List, [], ◌∷◌, ◌++◌, Option, None, Some, option_map, refl, sym, ap, ◌∙◌, append_assoc, length, drop, get_or, ◌<◌, ◌+◌}
 use Rattle.std.proofs.lemmas.List.{drop_more}
 use Rattle.c_tree.specs.declared.program.Width.{Width}
 use Rattle.c_tree.specs.declared.program.Width.TheVariants as width
@@ -9,7 +9,7 @@ use Rattle.c_tree.specs.declared.formats.Piece.TheVariants.{Text, Number}
 use Rattle.c_types.specs.declared.formats.Begun.{Begun}
 use Rattle.c_types.specs.declared.formats.Begun.TheVariants.{Outside, Percent, PercentL}
 use Rattle.c_types.specs.declared.formats.Draft.{Draft}
-use Rattle.c_types.specs.Drafts.{joined, completed, completed_from, parts_read, begun_of, format_read}
+use Rattle.c_types.specs.Drafts.{joined, completed, completed_from, parts_read}
 use Rattle.c_types.specs.Formats as formats
 use Rattle.c_types.specs.Formats.{Part, Byte, Conversion, with_byte, pieces_of, widths_of, parts_from, before}
 

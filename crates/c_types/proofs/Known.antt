@@ -1,5 +1,5 @@
 -- The look-up of known names.
-use Rattle.std.proofs.Common.{◌≡◌, ℕ, List, Option, None, Some, refl, sym, ap, ◌∙◌}
+use Rattle.std.proofs.Common.{◌≡◌, ℕ, List, Option, None, Some, ap, ◌∙◌}
 use Rattle.std.specs.Prelude.{option_map}
 use Rattle.c_tree.specs.declared.mpi.MpiFunction.{MpiFunction}
 use Rattle.c_tree.specs.MpiTable.{mpi_named}

@@ -1,13 +1,13 @@
 -- The laws of typing: what a pass over a tree's outline answers, and that a tree has at most one typed program or one
 -- refusal, and not both.
-use Rattle.std.proofs.Common.{◌≡◌, refl, sym, ap, ◌∙◌, Option, None, Some}
+use Rattle.std.proofs.Common.{◌≡◌, sym, ap, ◌∙◌, None, Some}
 use Rattle.c_tree.specs.Programs.{Program}
 use Rattle.c_tree.specs.Syntax.{Tree}
 use Rattle.c_types.specs.declared.refusals.TypeRefusal.{TypeRefusal}
 use Rattle.c_types.specs.Nodes.{first_of}
 use Rattle.c_types.specs.Typing.{Typed, Refused}
 use Rattle.c_types.specs.Units.{tree_outline, tree_nodes, program_made}
-use Rattle.c_types.proofs.Order.{first_in, or, not_there, none_found, found, says}
+use Rattle.c_types.proofs.Order.{or, not_there, none_found, found, says}
 
 -- nothing was found in a tree's outline: it has the typed program
 pub typed_of : (tree : Tree) (program : Program) → first_of (tree_outline tree) ≡ None → program ≡ program_made tree → Typed tree program

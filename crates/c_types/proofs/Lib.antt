@@ -13,3 +13,4 @@ pub mod LookSteps
 pub mod CallForms
 pub mod Passes
 pub mod Checked
+pub mod Mains

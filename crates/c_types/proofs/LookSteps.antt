@@ -1,5 +1,5 @@
 -- Steps of the pass over the arguments of calls.
-use Rattle.std.proofs.Common.{◌≡◌, ℕ, suc, zero, ◌+◌, ◌-◌, ◌<◌, ◌≤◌, List, [], ◌∷◌, ◌++◌, refl, sym, ap, ◌∙◌, subst, Vec, Global, Bool, true, false, cond, Option, None, Some, is_some, Result, Ok, Err, length, drop, get_or, slice_get, append_assoc, add-one, arith, ◌⊎◌, inl, inr}
+use Rattle.std.proofs.Common.{◌≡◌, ℕ, ◌+◌, ◌-◌, ◌<◌, ◌≤◌, List, [], ◌∷◌, ◌++◌, refl, sym, ap, ◌∙◌, subst, Vec, Global, cond, Option, None, Some, is_some, Result, Ok, Err, length, drop, get_or, slice_get, append_assoc, arith, ◌⊎◌, inl, inr}
 use Rattle.std.proofs.lemmas.List.{drop_more, drop_all}
 use Rattle.std.proofs.lemmas.Option.{slice_get_cases, slice_get-get_or}
 use Rattle.c_tree.specs.declared.mpi.Argument.{Argument}
@@ -17,7 +17,6 @@ use Rattle.c_types.specs.Calls.{special, or_typed, Every, Expressions}
 use Rattle.c_types.specs.Env.{Env, Scope, first_some}
 use Rattle.c_types.specs.Expressions.{kind_of, kinds, givens, outline, argument_outline}
 use Rattle.c_types.specs.Nodes.{first_of, Empty, Outline}
-use Rattle.c_types.specs.Outcomes.{fault}
 use Rattle.c_types.specs.Typed.{typed, passed, converted, unless_special, Passing, Own, Row}
 
 onto_more : (all : List Expr) (value : Expr) (rest : p.Exprs) → onto (all ++ value ∷ []) rest ≡ onto all (p.More (program.expr_of value) rest)

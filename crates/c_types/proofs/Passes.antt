@@ -25,8 +25,8 @@ use Rattle.c_tree.proofs.SyntaxRows as rows
 use Rattle.c_types.specs.declared.kinds.Escapes.{Escapes}
 use Rattle.c_types.specs.declared.refusals.TypeRefusal.{TypeRefusal}
 use Rattle.c_types.specs.Env.{Env, first_some}
-use Rattle.c_types.specs.Nodes.{Outline, first_of}
-use Rattle.c_types.specs.Outcomes.{fault, Appends}
+use Rattle.c_types.specs.Nodes.{first_of}
+use Rattle.c_types.specs.Outcomes.{Appends}
 use Rattle.c_types.specs.Answers.{Makes}
 use Rattle.c_types.specs.Typed.{typed}
 use Rattle.c_types.specs.Statements.{onto, after, after_all, escapes, escapes_all, escapes_both, stmt_outline, stmts_outline, stmt_made, stmts_made, items_of, declared_in, single_kind, levels_of, with_construct, with_single}

@@ -1,5 +1,5 @@
 -- Two arguments, and another number of them.
-use Rattle.std.proofs.Common.{◌≡◌, ℕ, ◌<◌, ◌≤◌, List, [], ◌∷◌, refl, length, false, true, arith}
+use Rattle.std.proofs.Common.{◌≡◌, ◌<◌, ◌≤◌, List, [], ◌∷◌, refl, length, false, true, arith}
 use Rattle.c_tree.specs.declared.syntax.Expr.{Expr}
 use Rattle.c_tree.specs.SyntaxOf.{exprs_of}
 use Rattle.c_types.specs.Calls.{are_two, may_start}

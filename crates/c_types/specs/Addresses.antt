@@ -1,12 +1,12 @@
 -- Which locals of a function have their address taken: a walk over its body, with the scopes of the function alone.
 -- It goes through all that may be evaluated from left to right; constants take no address.
-use Rattle.std.specs.Prelude.{ℕ, ◌+◌, Bool, true, false, cond, List, [], ◌∷◌, ◌++◌, length, Option, None, Some, set}
+use Rattle.std.specs.Prelude.{Bool, true, false, cond, List, [], ◌∷◌, ◌++◌, length, Option, None, Some, set}
 use Rattle.c_tree.specs.declared.mpi.MpiFunction.TheVariants as function
 use Rattle.c_tree.specs.declared.syntax.Base.{Base}
 use Rattle.c_tree.specs.declared.syntax.Param.{Param}
 use Rattle.c_tree.specs.declared.syntax.Unary.{Unary}
 use Rattle.c_tree.specs.declared.syntax.Unary.TheVariants as unary
-use Rattle.c_tree.specs.Syntax.{Expr, Exprs, Name, Number, Text, Call, Index, Field, Postfix, Prefix, Unary', Cast, SizeOf, Binary', Choice, Assign, End, More, Initializer, Nothing, Value, Values, Declarator, Declaration, ForHead, Bare, Declared, Evaluated, Stmt, Stmts, Empty, Eval, Declare, Block, If, IfElse, While, DoWhile, For, Return, Break, Continue, Single, Barrier, Done, Then}
+use Rattle.c_tree.specs.Syntax.{Expr, Exprs, Name, Number, Text, Call, Index, Field, Postfix, Prefix, Unary', Cast, SizeOf, Binary', Choice, Assign, End, More, Initializer, Value, Declarator, Declaration, ForHead, Bare, Declared, Evaluated, Stmt, Stmts, Empty, Eval, Declare, Block, If, IfElse, While, DoWhile, For, Return, Break, Continue, Single, Barrier, Done, Then}
 use Rattle.c_types.specs.declared.kinds.Decl.{Decl}
 use Rattle.c_types.specs.declared.kinds.Decl.TheVariants as decl
 use Rattle.c_types.specs.declared.kinds.Home.{Home}

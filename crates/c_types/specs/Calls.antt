@@ -1,5 +1,5 @@
 -- What the rules read of names, of the left side of an assignment, and of calls, where the types of operands are known.
-use Rattle.std.specs.Prelude.{ℕ, Bool, true, false, cond, not, ◌&&◌, ◌||◌, List, [], ◌∷◌, Option, None, Some, option_map, slice_get, is_some, codes, bytes_eq}
+use Rattle.std.specs.Prelude.{Bool, true, false, cond, not, ◌&&◌, ◌||◌, List, [], ◌∷◌, Option, None, Some, option_map, slice_get, is_some, codes, bytes_eq}
 use Rattle.c_tree.specs.declared.mpi.MpiFunction.{MpiFunction}
 use Rattle.c_tree.specs.declared.mpi.MpiFunction.TheVariants as function
 use Rattle.c_tree.specs.declared.syntax.Base.{Base}
@@ -11,7 +11,7 @@ use Rattle.c_tree.specs.declared.syntax.Binary.{Binary}
 use Rattle.c_tree.specs.MpiTable.{arguments_of}
 use Rattle.c_tree.specs.Syntax.{Expr, Exprs, Name, Text, Call, Index, Unary', End, More}
 use Rattle.c_types.specs.declared.kinds.Kind.{Kind}
-use Rattle.c_types.specs.declared.kinds.Kind.TheVariants.{Plain, Pointer, Null}
+use Rattle.c_types.specs.declared.kinds.Kind.TheVariants.{Pointer, Null}
 use Rattle.c_types.specs.declared.kinds.Decl.{Decl}
 use Rattle.c_types.specs.declared.kinds.Decl.TheVariants as decl
 use Rattle.c_types.specs.declared.kinds.Variable.{Variable}

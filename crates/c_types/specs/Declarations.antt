@@ -11,7 +11,6 @@ use Rattle.c_types.specs.declared.kinds.Kind.{Kind}
 use Rattle.c_types.specs.declared.kinds.Kind.TheVariants.{Plain, Pointer}
 use Rattle.c_types.specs.declared.kinds.Decl.TheVariants as decl
 use Rattle.c_types.specs.declared.kinds.Variable.{Variable}
-use Rattle.c_types.specs.declared.shapes.Declared.{Declared}
 use Rattle.c_types.specs.declared.shapes.Initial.{Initial}
 use Rattle.c_types.specs.declared.shapes.Initial.TheVariants as initial
 use Rattle.c_types.specs.declared.shapes.ItemShape.TheVariants as item

@@ -1,5 +1,5 @@
 -- What the rules read of an expression and of what stands in it, and its type.
-use Rattle.std.specs.Prelude.{Bool, List, [], ◌∷◌, Option, None, Some, cond, is_some}
+use Rattle.std.specs.Prelude.{List, [], ◌∷◌, Option, None, Some, cond, is_some}
 use Rattle.c_tree.specs.declared.syntax.Place.{Place}
 use Rattle.c_tree.specs.declared.syntax.Base.{Base}
 use Rattle.c_tree.specs.declared.syntax.Binary.{Binary}

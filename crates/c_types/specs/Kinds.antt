@@ -1,5 +1,5 @@
 -- Types of values: which are numbers and pointers, and which agree.
-use Rattle.std.specs.Prelude.{ℕ, Bool, true, false, cond, not, ◌&&◌, ◌||◌, List, [], ◌∷◌, Option, None, Some}
+use Rattle.std.specs.Prelude.{ℕ, Bool, true, false, not, ◌&&◌, ◌||◌, List, [], ◌∷◌, Option, None, Some}
 use Rattle.c_tree.specs.declared.program.Width.{Width}
 use Rattle.c_tree.specs.declared.program.Width.TheVariants as width
 use Rattle.c_tree.specs.declared.syntax.Base.{Base}

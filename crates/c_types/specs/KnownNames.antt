@@ -1,11 +1,10 @@
 -- The known names: those of MPI that programs may use, of printf, and of malloc.
-use Rattle.std.specs.Prelude.{ℕ, ℤ, pos, negsuc, cond, List, [], ◌∷◌, Option, None, Some, option_map, codes, bytes_eq}
+use Rattle.std.specs.Prelude.{ℤ, pos, negsuc, cond, List, [], ◌∷◌, Option, None, Some, option_map, codes, bytes_eq}
 use Rattle.mpc_base.specs.declared.values.Word.TheVariants as word
 use Rattle.mpc_base.specs.declared.values.Datatype.TheVariants as datatype
 use Rattle.mpc_base.specs.declared.values.Op.TheVariants as op
 use Rattle.c_tree.specs.declared.syntax.Base.TheVariants as base
 use Rattle.c_tree.specs.MpiTable.{mpi_named}
-use Rattle.c_types.specs.declared.kinds.Kind.{Kind}
 use Rattle.c_types.specs.declared.kinds.Kind.TheVariants.{Plain, Null}
 use Rattle.c_types.specs.declared.kinds.Known.{Known}
 use Rattle.c_types.specs.declared.kinds.Known.TheVariants.{Mpi, Printf, Malloc, Free, Constant, Datatype, Operation, Ignored}

@@ -20,3 +20,4 @@ pub mod FrameCode
 pub mod Units
 pub mod Typing
 pub mod Answers
+pub mod Mains

@@ -1,16 +1,15 @@
 -- The rules of typing over the shapes of nodes: which a node breaks, the least of them, and the node's own type.
 --
 -- An operand whose own rule is broken has no type, and no rule is broken by what is not known of it.
-use Rattle.std.specs.Prelude.{ℕ, Bool, true, false, cond, not, ◌&&◌, ◌||◌, nat_le, List, [], ◌∷◌, Option, None, Some, option_map, is_some}
+use Rattle.std.specs.Prelude.{ℕ, Bool, true, false, cond, not, ◌&&◌, ◌||◌, nat_le, List, [], ◌∷◌, Option, None, Some, is_some}
 use Rattle.c_tree.specs.declared.syntax.Base.{Base}
 use Rattle.c_tree.specs.declared.syntax.Base.TheVariants.{Int, Long, Comm, Request, Status}
 use Rattle.c_tree.specs.declared.syntax.Binary.{Binary}
 use Rattle.c_tree.specs.declared.syntax.Binary.TheVariants as sign
 use Rattle.c_types.specs.declared.kinds.Kind.{Kind}
-use Rattle.c_types.specs.declared.kinds.Kind.TheVariants.{Void, Plain, Pointer, Null, Arguments}
+use Rattle.c_types.specs.declared.kinds.Kind.TheVariants.{Void, Plain, Pointer, Arguments}
 use Rattle.c_types.specs.declared.kinds.Decl.{Decl}
 use Rattle.c_types.specs.declared.kinds.Decl.TheVariants as decl
-use Rattle.c_types.specs.declared.kinds.Known.{Known}
 use Rattle.c_types.specs.declared.kinds.Known.TheVariants as known
 use Rattle.c_types.specs.declared.kinds.Left.{Left}
 use Rattle.c_types.specs.declared.kinds.Left.TheVariants as left

@@ -1,6 +1,5 @@
 -- The typed form of expressions. It is spoken of only where no rule is broken.
-use Rattle.std.specs.Prelude.{ℕ, ℤ, pos, Bool, true, false, cond, not, ◌||◌, List, [], ◌∷◌, Option, None, Some, slice_get, unwrap_or, is_some, codes, bytes_eq}
-use Rattle.mpc_base.specs.declared.values.Word.{Word}
+use Rattle.std.specs.Prelude.{ℕ, pos, Bool, true, false, cond, ◌||◌, List, [], ◌∷◌, Option, None, Some, slice_get, unwrap_or, codes, bytes_eq}
 use Rattle.mpc_base.specs.declared.values.Word.TheVariants as word
 use Rattle.mpc_base.specs.declared.values.Obj.TheVariants.{Glob}
 use Rattle.mpc_base.specs.declared.values.Datatype.{Datatype}
@@ -10,7 +9,6 @@ use Rattle.c_tree.specs.declared.mpi.Argument.{Argument}
 use Rattle.c_tree.specs.declared.mpi.Argument.TheVariants as argument
 use Rattle.c_tree.specs.declared.mpi.MpiFunction.{MpiFunction}
 use Rattle.c_tree.specs.declared.mpi.MpiFunction.TheVariants as function
-use Rattle.c_tree.specs.declared.program.Callee.{Callee}
 use Rattle.c_tree.specs.declared.program.Callee.TheVariants as callee
 use Rattle.c_tree.specs.declared.program.MpiCall.{MpiCall}
 use Rattle.c_tree.specs.declared.program.Operation.{Operation}
@@ -21,12 +19,10 @@ use Rattle.c_tree.specs.declared.program.Scalar.{Scalar}
 use Rattle.c_tree.specs.declared.program.Scalar.TheVariants as scalar
 use Rattle.c_tree.specs.declared.program.Update.{Update}
 use Rattle.c_tree.specs.declared.program.Update.TheVariants as update
-use Rattle.c_tree.specs.declared.program.Width.{Width}
 use Rattle.c_tree.specs.declared.program.Width.TheVariants as width
 use Rattle.c_tree.specs.declared.syntax.Base.{Base}
 use Rattle.c_tree.specs.declared.syntax.Base.TheVariants as base
 use Rattle.c_tree.specs.declared.syntax.Binary.{Binary}
-use Rattle.c_tree.specs.declared.syntax.Binary.TheVariants as sign
 use Rattle.c_tree.specs.declared.syntax.Change.{Change}
 use Rattle.c_tree.specs.declared.syntax.Change.TheVariants as change
 use Rattle.c_tree.specs.declared.syntax.TypeName.{TypeName}
@@ -38,7 +34,7 @@ use Rattle.c_tree.specs.Syntax.{Expr, Exprs, Name, Number, Text, Call, Index, Fi
 use Rattle.c_types.specs.declared.kinds.Home.{Home}
 use Rattle.c_types.specs.declared.kinds.Home.TheVariants as home
 use Rattle.c_types.specs.declared.kinds.Kind.{Kind}
-use Rattle.c_types.specs.declared.kinds.Kind.TheVariants.{Void, Plain, Pointer, Null, Arguments}
+use Rattle.c_types.specs.declared.kinds.Kind.TheVariants.{Plain, Pointer}
 use Rattle.c_types.specs.declared.kinds.Decl.{Decl}
 use Rattle.c_types.specs.declared.kinds.Decl.TheVariants as decl
 use Rattle.c_types.specs.declared.kinds.Variable.{Variable}
@@ -46,7 +42,7 @@ use Rattle.c_types.specs.declared.kinds.Known.TheVariants as a_known
 use Rattle.c_types.specs.declared.kinds.Given.{Given}
 use Rattle.c_types.specs.declared.kinds.Sig.{Sig}
 use Rattle.c_types.specs.Arguments.{first_datatype, last_datatype, operation_of, is_ignored}
-use Rattle.c_types.specs.Calls.{meaning, side_of, cast_want, special}
+use Rattle.c_types.specs.Calls.{meaning, cast_want, special}
 use Rattle.c_types.specs.declared.meanings.Meaning.{Meaning}
 use Rattle.c_types.specs.declared.meanings.Meaning.TheVariants.{Operates, Compares, Conjunction, Disjunction}
 use Rattle.c_types.specs.Constants.{meaning_of, operation_width, size_of}
@@ -54,7 +50,6 @@ use Rattle.c_types.specs.Env.{Env}
 use Rattle.c_types.specs.Expressions.{kind_of, givens, right_want}
 use Rattle.c_types.specs.Formats.{format_parts, pieces_of, Part}
 use Rattle.c_types.specs.Kinds.{is_number, is_status, has, words_of, width_of}
-use Rattle.c_types.specs.Rules.{sound_kind}
 
 -- ---- variables
 

@@ -5,7 +5,6 @@ use Rattle.mpc_base.specs.declared.owners.Level.{Level}
 use Rattle.mpc_base.specs.declared.owners.StaticVar.{StaticVar}
 use Rattle.c_tree.specs.declared.program.Ending.{Ending}
 use Rattle.c_tree.specs.declared.program.Ending.TheVariants as ending
-use Rattle.c_tree.specs.declared.syntax.Base.{Base}
 use Rattle.c_tree.specs.declared.syntax.Base.TheVariants as base
 use Rattle.c_tree.specs.declared.syntax.TypeName.{TypeName}
 use Rattle.c_tree.specs.declared.syntax.Param.{Param}
@@ -14,7 +13,7 @@ use Rattle.c_tree.specs.declared.syntax.ParamType.TheVariants as written
 use Rattle.c_tree.specs.declared.syntax.Returns.{Returns}
 use Rattle.c_tree.specs.declared.syntax.Returns.TheVariants as answer
 use Rattle.c_tree.specs.Programs as p
-use Rattle.c_tree.specs.Syntax.{Declaration, Body, Function, Item, Scope, Variables, Defined, Tree, Stmts}
+use Rattle.c_tree.specs.Syntax.{Body, Function, Item, Scope, Variables, Defined, Tree}
 use Rattle.c_types.specs.declared.kinds.Home.{Home}
 use Rattle.c_types.specs.declared.kinds.Home.TheVariants as home
 use Rattle.c_types.specs.declared.kinds.Kind.{Kind}

@@ -31,6 +31,8 @@ mod simple_statements;
 mod statements;
 mod units;
 mod variables;
+mod with_main;
 
 pub use refusals::TypeRefusal;
 pub use units::check;
+pub use with_main::typed_programs_have_a_main;

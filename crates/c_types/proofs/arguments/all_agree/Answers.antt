@@ -1,4 +1,4 @@
-use Rattle.std.proofs.Common.{ap, ◌∙◌, sym, subst, refl, ℕ, ◌<◌}
+use Rattle.std.proofs.Common.{ap, subst, refl, ℕ, ◌<◌}
 use Rattle.std.specs.Prelude.{not}
 use Rattle.c_types.specs.Kinds.{all_agree, agree, misses}
 use Rattle.c_types.proofs.Pairs.{other_lengths, stops, goes}

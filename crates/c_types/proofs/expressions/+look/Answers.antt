@@ -2,9 +2,7 @@ use Rattle.std.proofs.Common.{◌-◌, drop, arith}
 use Rattle.std.proofs.lemmas.List.{drop_all}
 use Rattle.std.proofs.lemmas.Result.{IfOk-weaker}
 use Rattle.mpc_base.specs.declared.failures.Memory.{Memory}
-use Rattle.c_tree.specs.SyntaxOf.{expr_of}
 use Rattle.c_types.specs.declared.nodes.Looked.{Looked}
-use Rattle.c_types.specs.Calls.{special}
 use Rattle.c_types.specs.Outcomes.{fault}
 use Rattle.c_types.specs.Typed as typed
 use Rattle.c_types.proofs.CallForms as forms

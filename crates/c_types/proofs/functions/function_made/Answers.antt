@@ -1,4 +1,3 @@
-use Rattle.std.proofs.Common.{ap}
 use Rattle.c_types.proofs.Passes.{definition_of_items}
 use Rattle.c_types.proofs.functions.function_made.Goals as goal
 
