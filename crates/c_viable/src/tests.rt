@@ -347,6 +347,7 @@ fn changed_sources(rt: HostRuntime) -> Result<(), Fail> {
         COLON,
     ];
     let declaration = [
+        STATIC,
         INT,
         STAR,
         NAME,
@@ -355,6 +356,10 @@ fn changed_sources(rt: HostRuntime) -> Result<(), Fail> {
         SQUARE,
         NUMBER,
         CLOSE_SQUARE,
+        EQUALS,
+        BRACE,
+        NUMBER,
+        CLOSE_BRACE,
         SEMICOLON,
     ];
     let choice = [
@@ -368,21 +373,53 @@ fn changed_sources(rt: HostRuntime) -> Result<(), Fail> {
         NAME,
         CLOSE,
         SEMICOLON,
+        ELSE,
+        SEMICOLON,
         CLOSE_BRACE,
     ];
     let operations = [
-        LONG, NAME, EQUALS, NAME, OR, MINUS, NAME, DOT, NAME, SEMICOLON,
+        LONG, NAME, EQUALS, NAME, OR, MINUS, NUMBER, QUESTION, NOT, NAME, COLON, NAME, DOT, NAME,
+        SEMICOLON,
     ];
-    let call = [
-        INT, NAME, EQUALS, NAME, OPEN, NUMBER, COMMA, NAME, CLOSE, SEMICOLON,
+    let loop_for = [
+        VOID,
+        NAME,
+        OPEN,
+        INT,
+        NAME,
+        CLOSE,
+        BRACE,
+        FOR,
+        OPEN,
+        SEMICOLON,
+        SEMICOLON,
+        CLOSE,
+        SEMICOLON,
+        CLOSE_BRACE,
+    ];
+    let loop_do = [
+        VOID,
+        NAME,
+        OPEN,
+        CLOSE,
+        BRACE,
+        DO,
+        SEMICOLON,
+        WHILE,
+        OPEN,
+        NUMBER,
+        CLOSE,
+        SEMICOLON,
+        CLOSE_BRACE,
     ];
     let mut random = Pcg32::new(2024, 7);
     for turn in 0..1000 {
-        let words: &[Word] = match turn % 4 {
+        let words: &[Word] = match turn % 5 {
             0 => &declaration,
             1 => &choice,
             2 => &operations,
-            _ => &call,
+            3 => &loop_for,
+            _ => &loop_do,
         };
         let once = mutated(rt.alloc(), words, &others, &mut random)?;
         let twice = mutated(rt.alloc(), once.as_slice(), &others, &mut random)?;
