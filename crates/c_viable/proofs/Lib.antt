@@ -1,0 +1,13 @@
+pub mod Alternatives
+pub mod Declarations
+pub mod Depths
+pub mod Expressions
+pub mod Parts
+pub mod RowLaws
+pub mod Same
+pub mod Sequences
+pub mod Statements
+pub mod Tables
+pub mod Types
+pub mod Units
+pub mod Verdicts
