@@ -1,7 +1,8 @@
 -- What a call has done, and what follows for its status.
-use Rattle.std.proofs.Common.{◌≡◌, ◌≢◌, ℕ, zero, suc, List, [], ◌∷◌, length, Option, Some, None, IfSome, inl, inr, refl, sym, ap, ◌∙◌, subst, arith}
+use Rattle.std.proofs.Common.{◌≡◌, ◌≢◌, ◌≤◌, ◌↔◌, ◌⊎◌, ℕ, Bool, false, List, [], ◌∷◌, length, Option, Some, None, IfSome, IsSome, is_some, inl, inr, refl, sym, ap, ◌∙◌, subst, arith}
 use Rattle.mpc_base.specs.Causes.{Rose}
-use Rattle.mpc_base.specs.Told.{Store, content_of}
+use Rattle.mpc_base.specs.Told.{Store, content_of, Took, TookPrefix}
+use Rattle.c_tree.specs.ProgramOf.{program_of}
 use Rattle.run_model.specs.declared.records.RunRecord.{RunRecord}
 use Rattle.mpc_top.specs.declared.command.Mode.{Mode}
 use Rattle.mpc_top.specs.declared.command.Mode.TheVariants.{Check, Serial}
@@ -10,8 +11,10 @@ use Rattle.mpc_top.specs.declared.refusals.Refusal.{Refusal}
 use Rattle.mpc_top.specs.declared.refusals.Refusal.TheVariants.{Usage, ReadFault, Source, Memory}
 use Rattle.mpc_top.specs.Command.{NamesSource, NamesNone, mode_word}
 use Rattle.mpc_top.specs.Sources.{Refuses, refusal_line}
-use Rattle.mpc_top.specs.Answers.{OfSource, ToldSource, WroteLine, IsAccepted, IsFirst, IsGood, Text}
+use Rattle.mpc_top.specs.RunStatuses.{made_status, IsStatusOf}
+use Rattle.mpc_top.specs.Answers.{OfSource, ToldSource, WroteLine, IsAccepted, IsGood, Text, IsDone, IsCutShort, IsMade, RunsSource}
 use Rattle.mpc_top.specs.Refusals.{Holds, MadeOf, Showed, SourceAnswered, Answered, status_for, line_for}
+use Rattle.mpc_top.proofs.RunStatuses.{made_small, says_status}
 use Rattle.mpc_top.proofs.Reasons.{same_reason, good_content}
 
 -- what holds of the content that was read holds of the file
@@ -27,7 +30,7 @@ module _ (words : List (List ℕ)) (told : Option Store) (name src : List ℕ) (
   text_of Check text (Some run) names made = absurd made
   text_of Serial text None names made = absurd made
   text_of Serial text (Some run) names made =
-      (made.0, record { name = name; names = names; file = of_content told name src (IsFirst run.setup.program) content made.1 }, made.2)
+      (made.0, record { name = name; names = names; file = of_content told name src (IsAccepted (program_of run.setup.program)) content made.1 }, made.2)
 
   -- what was done with the source's content is what the call has done
   pub answered_of : (mode : Mode) (faults faults' status : ℕ) (kept : Option RunRecord) (t t' : Option (List ℕ)) (w w' : ℕ) → NamesSource words mode name → (Rose faults faults' → ⊥)
@@ -59,10 +62,10 @@ second [] = []
 second (w ∷ []) = []
 second (w ∷ v ∷ ws) = v
 
-modes_same : (words : List (List ℕ)) (m n : Mode) (a b : List ℕ) → NamesSource words m a → NamesSource words n b → m ≡ n
+pub modes_same : (words : List (List ℕ)) (m n : Mode) (a b : List ℕ) → NamesSource words m a → NamesSource words n b → m ≡ n
 modes_same words m n a b h g = let e : mode_word m ∷ a ∷ [] ≡ mode_word n ∷ b ∷ [] = sym h.words_are ∙ g.words_are in words_mode m n cc
 
-names_same : (words : List (List ℕ)) (m n : Mode) (a b : List ℕ) → NamesSource words m a → NamesSource words n b → a ≡ b
+pub names_same : (words : List (List ℕ)) (m n : Mode) (a b : List ℕ) → NamesSource words m a → NamesSource words n b → a ≡ b
 names_same words m n a b h g = let e : mode_word m ∷ a ∷ [] ≡ mode_word n ∷ b ∷ [] = sym h.words_are ∙ g.words_are in cc
 
 -- two things that are told of the source's file
@@ -73,28 +76,120 @@ same_file words told m n Like Also of told_of =
     let there = subst (λ k. Like m (content_of told_of.store k)) (names_same words m n of.name told_of.name of.names told_of.names) here in
     (content_of told_of.store told_of.name, subst (λ k. Like k (content_of told_of.store told_of.name)) (modes_same words m n of.name told_of.name of.names told_of.names) there, told_of.like)
 
-shown_calm : (status : ℕ) (text : List ℕ) (t t' : Option (List ℕ)) (w w' : ℕ) → Showed status text t t' w w' → (Rose w w' → ⊥) → status ≡ 0
-shown_calm zero text t t' w w' showed calm = refl
-shown_calm (suc n) text t t' w w' showed calm = absurd (calm (showed.cause (λ z. absurd (omega (arith, z)))).1)
+-- the status of a refusal is none behind a text
+not_made : (q : Refusal) (status : ℕ) → status ≡ status_for q → IsMade status → ⊥
+not_made Usage status is (inl h) = omega (arith, is, h)
+not_made Usage status is (inr h) = omega (arith, is, h)
+not_made ReadFault status is (inl h) = omega (arith, is, h)
+not_made ReadFault status is (inr h) = omega (arith, is, h)
+not_made (Source s) status is (inl h) = omega (arith, is, h)
+not_made (Source s) status is (inr h) = omega (arith, is, h)
+not_made Memory status is (inl h) = omega (arith, is, h)
+not_made Memory status is (inr h) = omega (arith, is, h)
+
+short_not_made : (status : ℕ) → status ≡ 10 → IsMade status → ⊥
+short_not_made status is made = not_made Memory status is made
+
+shown_made : (kept : Option RunRecord) (status : ℕ) (text : List ℕ) (t t' : Option (List ℕ)) (w w' : ℕ) → Showed (made_status kept) status text t t' w w' → IsMade status
+shown_made kept status text t t' w w' (inl whole) = inl (subst (λ n. n ≤ 2) (sym whole.0) (made_small kept))
+shown_made kept status text t t' w w' (inr part) = inr part.0
 
 module _ (words : List (List ℕ)) (told : Option Store) (f f' status : ℕ) (kept : Option RunRecord) (t t' : Option (List ℕ)) (w w' : ℕ) where
-  -- words that are no command end with status 6
-  pub usage_of : Answered words told f f' status kept t t' w w' → NamesNone words → status ≡ 6
-  usage_of (inl r) none = by_refusal r.refusal r.holds r.status_is
+  -- words that are no command end with status 6, and no other words
+  refusal_usage : (q : Refusal) → Holds q words told f f' → status ≡ status_for q → NamesNone words → status ≡ 6
+  refusal_usage Usage holds is none = is
+  refusal_usage ReadFault holds is none = absurd (none holds.0 holds.1.name holds.1.names)
+  refusal_usage (Source s) holds is none = absurd (none holds.0 holds.1.name holds.1.names)
+  refusal_usage Memory holds is none = absurd (none holds.0 holds.1.name holds.1.names)
+
+  usage_refusal : (q : Refusal) → Holds q words told f f' → status ≡ status_for q → status ≡ 6 → NamesNone words
+  usage_refusal Usage holds is six = holds
+  usage_refusal ReadFault holds is six = absurd (omega (arith, is, six))
+  usage_refusal (Source s) holds is six = absurd (omega (arith, is, six))
+  usage_refusal Memory holds is six = absurd (omega (arith, is, six))
+
+  text_names : (m : Mode) (k : Option RunRecord) (text : List ℕ) → Text m words told k text → (name : List ℕ) × NamesSource words m name
+  text_names Check None text is = (is.1.name, is.1.names)
+  text_names Check (Some run) text is = absurd is
+  text_names Serial None text is = absurd is
+  text_names Serial (Some run) text is = (is.1.name, is.1.names)
+
+  six_not_made : status ≡ 6 → IsMade status → ⊥
+  six_not_made six made = not_made Usage status six made
+
+  pub usage_of : Answered words told f f' status kept t t' w w' → (status ≡ 6) ↔ NamesNone words
+  usage_of (inl r) = (usage_refusal r.refusal r.holds r.status_is, refusal_usage r.refusal r.holds r.status_is)
+  usage_of (inr (inl s)) =
+      let named = text_names s.mode kept s.text s.is in
+      (λ six. absurd (six_not_made six (shown_made kept status s.text t t' w w' s.showed)), λ none. absurd (none s.mode named.0 named.1))
+  usage_of (inr (inr s)) = (λ six. absurd (omega (arith, six, s.3.status_is)), λ none. absurd (none s.0 s.1 s.2))
+
+  -- a status up to 2 comes with the whole text
+  shown_whole : (text : List ℕ) → Showed (made_status kept) status text t t' w w' → status ≤ 2 → (status ≡ made_status kept) × Took t text t'
+  shown_whole text (inl whole) small = whole
+  shown_whole text (inr part) small = absurd (omega (arith, part.0, small))
+
+  pub done_of : Answered words told f f' status kept t t' w w' → status ≤ 2 → IsDone words told status kept t t'
+  done_of (inl r) small = absurd (not_made r.refusal status r.status_is (inl small))
+  done_of (inr (inl s)) small =
+      let whole = shown_whole s.text s.showed small in
+      record { mode = s.mode; text = s.text; is = s.is; status_is = whole.0; took = whole.1 }
+  done_of (inr (inr s)) small = absurd (short_not_made status s.3.status_is (inl small))
+
+  -- status 8 comes with a prefix of the text, and a count that rose
+  shown_part : (text : List ℕ) → Showed (made_status kept) status text t t' w w' → status ≡ 8 → TookPrefix t text t' × Rose w w'
+  shown_part text (inl whole) eight = absurd (omega (arith, whole.0, eight, made_small kept))
+  shown_part text (inr part) eight = (part.1, part.2)
+
+  pub cut_of : Answered words told f f' status kept t t' w w' → status ≡ 8 → IsCutShort words told kept t t' × Rose w w'
+  cut_of (inl r) eight = absurd (not_made r.refusal status r.status_is (inr eight))
+  cut_of (inr (inl s)) eight =
+      let part = shown_part s.text s.showed eight in
+      (record { mode = s.mode; text = s.text; is = s.is; took = part.0 }, part.1)
+  cut_of (inr (inr s)) eight = absurd (short_not_made status s.3.status_is (inr eight))
+
+  -- the status of a run that was kept is the run's
+  text_status : (m : Mode) (k : Option RunRecord) (text : List ℕ) → Text m words told k text → status ≡ made_status k → IfSome k (λ run. IsStatusOf run status)
+  text_status m None text is status_is = tt
+  text_status Check (Some run) text is status_is = absurd is
+  text_status Serial (Some run) text is status_is = says_status run status is.0.records status_is
+
+  shown_status : (m : Mode) (k : Option RunRecord) (text : List ℕ) → Text m words told k text → Showed (made_status k) status text t t' w w' → status ≢ 8 → IfSome k (λ run. IsStatusOf run status)
+  shown_status m k text is (inl whole) not8 = text_status m k text is whole.0
+  shown_status m k text is (inr part) not8 = absurd (not8 part.0)
+
+  none_kept : (k : Option RunRecord) (P : RunRecord → Type 0) → k ≡ None → IfSome k P
+  none_kept None P is = tt
+  none_kept (Some run) P is = absurd (cc)
+
+  pub status_of_kept : Answered words told f f' status kept t t' w w' → IfSome kept (λ run. status ≢ 8 → IsStatusOf run status)
+  status_of_kept (inl r) = none_kept kept (λ run. status ≢ 8 → IsStatusOf run status) r.kept_none
+  status_of_kept (inr (inl s)) = later kept s.is s.showed
     where
-      by_refusal : (q : Refusal) → Holds q words told f f' → status ≡ status_for q → status ≡ 6
-      by_refusal Usage holds is = is
-      by_refusal ReadFault holds is = absurd (none holds.0 holds.1.name holds.1.names)
-      by_refusal (Source s) holds is = absurd (none holds.0 holds.1.name holds.1.names)
-      by_refusal Memory holds is = absurd (none holds.0 holds.1.name holds.1.names)
-  usage_of (inr (inl s)) none = by_mode s.mode kept s.is
+      later : (k : Option RunRecord) → Text s.mode words told k s.text → Showed (made_status k) status s.text t t' w w' → IfSome k (λ run. status ≢ 8 → IsStatusOf run status)
+      later None is showed = tt
+      later (Some run) is showed = shown_status s.mode (Some run) s.text is showed
+  status_of_kept (inr (inr s)) = none_kept kept (λ run. status ≢ 8 → IsStatusOf run status) s.3.kept_none
+
+  -- a record is kept exactly with the text of a run
+  text_keeps : (m : Mode) (k : Option RunRecord) (text : List ℕ) → Text m words told k text → (IsSome k → RunsSource words) × (RunsSource words → IsSome k)
+  text_keeps Check None text is = (λ some. cc, λ runs. absurd (other_mode runs is.1.names))
     where
-      by_mode : (m : Mode) (k : Option RunRecord) → Text m words told k s.text → status ≡ 6
-      by_mode Check None is = absurd (none Check is.1.name is.1.names)
-      by_mode Check (Some run) is = absurd is
-      by_mode Serial None is = absurd is
-      by_mode Serial (Some run) is = absurd (none Serial is.1.name is.1.names)
-  usage_of (inr (inr s)) none = absurd (none s.0 s.1 s.2)
+      other_mode : RunsSource words → NamesSource words Check is.1.name → ⊥
+      other_mode runs names = let e : Serial ≡ Check = modes_same words Serial Check runs.0 is.1.name runs.1 names in cc
+  text_keeps Check (Some run) text is = absurd is
+  text_keeps Serial None text is = absurd is
+  text_keeps Serial (Some run) text is = (λ some. (is.1.name, is.1.names), λ runs. refl)
+
+  some_none : (k : Option RunRecord) → k ≡ None → IsSome k → ⊥
+  some_none k is some = let e : is_some k ≡ false = ap is_some is in cc
+
+  pub kept_of : Answered words told f f' status kept t t' w w' → IsSome kept ↔ (RunsSource words × IsMade status)
+  kept_of (inl r) = (λ some. absurd (some_none kept r.kept_none some), λ made. absurd (not_made r.refusal status r.status_is made.1))
+  kept_of (inr (inl s)) =
+      let keeps = text_keeps s.mode kept s.text s.is in
+      (λ some. (keeps.0 some, shown_made kept status s.text t t' w w' s.showed), λ made. keeps.1 made.0)
+  kept_of (inr (inr s)) = (λ some. absurd (some_none kept s.3.kept_none some), λ made. absurd (short_not_made status s.3.status_is made.1))
 
   -- a text is made of a source that is good for the mode
   good_of : (m : Mode) (k : Option RunRecord) (text : List ℕ) → Text m words told k text → OfSource words m told (IsGood m)
@@ -102,14 +197,14 @@ module _ (words : List (List ℕ)) (told : Option Store) (f f' status : ℕ) (ke
     where
       likely : (o : Option Store) (n : List ℕ) → IfSome o (λ store. IsAccepted is.0 (content_of store n)) → IfSome o (λ store. IsGood Check (content_of store n))
       likely None n h = tt
-      likely (Some store) n h = (is.0, h)
+      likely (Some store) n h = (is.0, h, tt)
   good_of Check (Some run) text is = absurd is
   good_of Serial None text is = absurd is
   good_of Serial (Some run) text is = record { name = is.1.name; names = is.1.names; file = likely told is.1.name is.1.file }
     where
-      likely : (o : Option Store) (n : List ℕ) → IfSome o (λ store. IsFirst run.setup.program (content_of store n)) → IfSome o (λ store. IsGood Serial (content_of store n))
+      likely : (o : Option Store) (n : List ℕ) → IfSome o (λ store. IsAccepted (program_of run.setup.program) (content_of store n)) → IfSome o (λ store. IsGood Serial (content_of store n))
       likely None n h = tt
-      likely (Some store) n h = (run.setup.program, h)
+      likely (Some store) n h = (program_of run.setup.program, h, is.0.plain)
 
   -- a source that is refused for a reason ends with status 5 and that reason's line
   pub refuses_of : Answered words told f f' status kept t t' w w' → (mode : Mode) (refusal : SourceRefusal) → ToldSource words mode told (Refuses mode refusal) → (Rose f f' → ⊥) → status ≢ 10
@@ -128,8 +223,12 @@ module _ (words : List (List ℕ)) (told : Option Store) (f f' status : ℕ) (ke
       absurd (good_content mode refusal both.0 both.2 both.1)
   refuses_of (inr (inr s)) mode refusal source calm not10 = absurd (not10 s.3.status_is)
 
-  -- a source that is good for its mode, read and written without a fault, ends with status 0
-  pub complete_of : Answered words told f f' status kept t t' w w' → (mode : Mode) → ToldSource words mode told (IsGood mode) → (Rose f f' → ⊥) → (Rose w w' → ⊥) → status ≢ 10 → status ≡ 0
+  shown_calm : (text : List ℕ) → Showed (made_status kept) status text t t' w w' → (Rose w w' → ⊥) → status ≡ made_status kept
+  shown_calm text (inl whole) calm = whole.0
+  shown_calm text (inr part) calm = absurd (calm part.2)
+
+  -- a source that is good for its mode, read and written without a fault, ends with the status of what was made
+  pub complete_of : Answered words told f f' status kept t t' w w' → (mode : Mode) → ToldSource words mode told (IsGood mode) → (Rose f f' → ⊥) → (Rose w w' → ⊥) → status ≢ 10 → status ≡ made_status kept
   complete_of (inl r) mode source calm dry not10 = absurd (by_refusal r.refusal r.holds r.status_is)
     where
       by_refusal : (q : Refusal) → Holds q words told f f' → status ≡ status_for q → ⊥
@@ -139,5 +238,5 @@ module _ (words : List (List ℕ)) (told : Option Store) (f f' status : ℕ) (ke
           let both = same_file words told holds.0 mode (λ m. Refuses m s) (IsGood mode) holds.1 source in
           good_content mode s both.0 both.1 both.2
       by_refusal Memory holds is = not10 is
-  complete_of (inr (inl s)) mode source calm dry not10 = shown_calm status s.text t t' w w' s.showed dry
+  complete_of (inr (inl s)) mode source calm dry not10 = shown_calm s.text s.showed dry
   complete_of (inr (inr s)) mode source calm dry not10 = absurd (not10 s.3.status_is)

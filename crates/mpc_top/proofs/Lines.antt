@@ -4,7 +4,6 @@ use Rattle.std.proofs.Math.Seq.{take-length}
 use Rattle.mpc_base.specs.Causes.{HasCause}
 use Rattle.mpc_base.specs.Told.{Took, TookPrefix}
 use Rattle.mpc_top.specs.Answers.{WroteLine}
-use Rattle.mpc_top.specs.Refusals.{Showed}
 
 -- a whole text is a prefix of itself
 pub took_prefix : (before after : Option (List ℕ)) (text : List ℕ) → Took before text after → TookPrefix before text after
@@ -15,6 +14,3 @@ pub wrote_line : {T E : Type 0} (before after : Option (List ℕ)) (text : List 
     → HasCause faults faults' result → WroteLine text before after faults faults'
 wrote_line before after text faults faults' (Ok x) took prefix cause = record { prefix = took_prefix before after text took; whole = λ calm. took }
 wrote_line before after text faults faults' (Err e) took prefix cause = record { prefix = prefix; whole = λ calm. absurd (calm cause.failed) }
-
-pub showed_whole : (before after : Option (List ℕ)) (text : List ℕ) (faults faults' : ℕ) → Took before text after → Showed 0 text before after faults faults'
-showed_whole before after text faults faults' took = record { prefix = took_prefix before after text took; whole = λ zero. took; cause = λ other. absurd (other refl) }

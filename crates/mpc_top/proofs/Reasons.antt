@@ -1,5 +1,5 @@
 -- A file is refused for one reason, and a file that is refused is not accepted.
-use Rattle.std.proofs.Common.{◌≡◌, ◌≤◌, ◌<◌, ℕ, List, length, Option, Some, None, refl, sym, ap, ◌∙◌, subst, arith}
+use Rattle.std.proofs.Common.{◌≡◌, ◌≤◌, ◌<◌, ℕ, Bool, true, false, List, length, Option, Some, None, refl, sym, ap, ◌∙◌, subst, arith}
 use Rattle.c_lex.specs.declared.tokens.Token.{Token}
 use Rattle.c_lex.specs.declared.tokens.LexRefusal.{LexRefusal}
 use Rattle.c_lex.specs.Lexed as lexed
@@ -12,12 +12,13 @@ use Rattle.c_tree.specs.Programs.{Program}
 use Rattle.c_types.specs.declared.refusals.TypeRefusal.{TypeRefusal}
 use Rattle.c_types.specs.Typing as typing
 use Rattle.c_types.proofs.Laws as type_laws
+use Rattle.c_compile.specs.Plain.{is_plain}
 use Rattle.mpc_top.specs.declared.command.Mode.{Mode}
 use Rattle.mpc_top.specs.declared.command.Mode.TheVariants.{Check, Serial}
 use Rattle.mpc_top.specs.declared.sources.SourceRefusal.{SourceRefusal}
 use Rattle.mpc_top.specs.declared.sources.SourceRefusal.TheVariants as refusal
 use Rattle.mpc_top.specs.Sources.{HasTokens, HasTree, Accepted, RefusesContent, Refuses}
-use Rattle.mpc_top.specs.Answers.{IsGood}
+use Rattle.mpc_top.specs.Answers.{IsBuilt, IsGood}
 
 long_or_short : (src : List ℕ) → 1048576 < length src → length src ≤ 1048576 → ⊥
 long_or_short src long short = omega (arith, long, short)
@@ -104,12 +105,22 @@ accepted_content m (refusal.Parse at) src program h accepted = absurd (spelt_onc
 accepted_content m (refusal.Type b) src program h accepted = absurd (typed_once src h.0 b program h.1 h.2 accepted)
 accepted_content m refusal.NotBuilt src program h accepted = refl
 
+-- a source has one typed program
+pub same_program : (src : List ℕ) (p q : Program) → Accepted src p → Accepted src q → p ≡ q
+same_program src p q first second =
+    type_laws.same_program first.tree p q first.typed (subst (λ t. typing.Typed t q) (tree_same src second.tree first.tree second.has first.has) second.typed)
+
+true_or_false : (b : Bool) → b ≡ true → b ≡ false → ⊥
+true_or_false b is fails = cc
+
+-- a program that a mode is built for is not refused for not being built
+built_once : (m : Mode) (src : List ℕ) (program : Program) → RefusesContent m refusal.NotBuilt src → Accepted src program → IsBuilt m program → ⊥
+built_once Check src program h accepted built = h
+built_once Serial src program h accepted built =
+    true_or_false (is_plain program) built (ap is_plain (same_program src program h.0 accepted h.1) ∙ h.2)
+
 -- a file that is good for a mode is not refused
 pub good_content : (m : Mode) (r : SourceRefusal) (file : Option (List ℕ)) → Refuses m r file → IsGood m file → ⊥
-good_content Check r None h good = absurd good.1
-good_content Serial r None h good = absurd good.1
-good_content Check r (Some src) h good =
-    subst (λ q. RefusesContent Check q src) (accepted_content Check r src good.0 h good.1) h
-good_content Serial r (Some src) h good =
-    let not_first = (subst (λ q. RefusesContent Serial q src) (accepted_content Serial r src good.1.1.0 h good.1.1.1) h).2 in
-    not_first good.0 good.1.0
+good_content m r None h good = good.1
+good_content m r (Some src) h good =
+    built_once m src good.0 (subst (λ q. RefusesContent m q src) (accepted_content m r src good.0 h good.1) h) good.1 good.2

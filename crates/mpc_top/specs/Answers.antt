@@ -1,20 +1,20 @@
 -- What the top call answers, and what each answer says.
-use Rattle.std.specs.Prelude.{◌≡◌, ℕ, List, [], ◌∷◌, codes, Option, Some, None, IfSome, Bool, ◌==◌}
+use Rattle.std.specs.Prelude.{◌≡◌, ◌≤◌, ◌⊎◌, ℕ, List, [], ◌∷◌, codes, Option, Some, None, IfSome, Bool, true, ◌==◌}
 use Rattle.std.specs.List.{list_any}
 use Rattle.mpc_base.specs.Causes.{Rose}
 use Rattle.mpc_base.specs.Told.{Store, content_of, Took, TookPrefix}
-use Rattle.c_tree.specs.declared.trees.Program.{Program}
-use Rattle.c_tree.specs.Programs as typed
+use Rattle.c_tree.specs.Programs.{Program}
+use Rattle.c_tree.specs.ProgramOf.{program_of}
+use Rattle.c_compile.specs.Plain.{is_plain}
 use Rattle.journal.specs.Report.{report_of}
-use Rattle.mpc_base.specs.declared.journals.End.TheVariants as end
 use Rattle.run_model.specs.declared.records.RunRecord.{RunRecord}
-use Rattle.run_model.specs.Run.{RecordsRun, status_of}
+use Rattle.run_model.specs.Run.{RecordsRun}
 use Rattle.mpc_top.specs.declared.command.Mode.{Mode}
 use Rattle.mpc_top.specs.declared.command.Mode.TheVariants.{Check, Serial}
 use Rattle.mpc_top.specs.declared.sources.SourceRefusal.{SourceRefusal}
-use Rattle.mpc_top.specs.FirstSource.{FirstSource}
 use Rattle.mpc_top.specs.Command.{NamesSource}
 use Rattle.mpc_top.specs.Sources.{Accepted, Refuses, refusal_line, accepted_line}
+use Rattle.mpc_top.specs.RunStatuses.{made_status}
 
 abbrev pub usage_line : List ℕ
 usage_line = codes "mpc: usage\n"
@@ -37,47 +37,46 @@ pub record ToldSource (words : List (List ℕ)) (mode : Mode) (told : Option Sto
   pub like : Like (content_of store name)
 
 -- the file's content is accepted, and this is its typed program
-abbrev pub IsAccepted : typed.Program → Option (List ℕ) → Type 0
+abbrev pub IsAccepted : Program → Option (List ℕ) → Type 0
 IsAccepted program None = ⊥
 IsAccepted program (Some src) = Accepted src program
 
--- the file's content is an accepted source that is run, and this is its program
-abbrev pub IsFirst : Program → Option (List ℕ) → Type 0
-IsFirst program None = ⊥
-IsFirst program (Some src) = FirstSource src program × ((accepted : typed.Program) × Accepted src accepted)
+-- what a mode asks for of a program, so that it is done: to be run it is a plain one
+abbrev pub IsBuilt : Mode → Program → Type 0
+IsBuilt Check program = Unit {0}
+IsBuilt Serial program = is_plain program ≡ true
 
--- what a mode asks for of a source, so that it is done: to be accepted, and to be run also to be one that is built
+-- what a mode asks for of a source, so that it is done
 abbrev pub IsGood : Mode → Option (List ℕ) → Type 0
-IsGood Check file = (program : typed.Program) × IsAccepted program file
-IsGood Serial file = (program : Program) × IsFirst program file
+IsGood mode file = (program : Program) × IsAccepted program file × IsBuilt mode program
 
 -- The sink took the line, or a prefix of it where its count of faults rose.
 pub record WroteLine (line : List ℕ) (taken taken' : Option (List ℕ)) (faults faults' : ℕ) : Type 0 where
   pub prefix : TookPrefix taken line taken'
   pub whole : (Rose faults faults' → ⊥) → Took taken line taken'
 
--- The record is that of a finished run, whose exit status is 0.
-pub record IsFinishedRun (run : RunRecord) : Type 0 where
+-- The record is that of a run, and the run's program is plain.
+pub record IsPlainRun (run : RunRecord) : Type 0 where
   pub records : RecordsRun run
-  pub finished : run.end ≡ end.Finished
-  pub status : status_of run.end run.ranks ≡ 0
+  pub plain : is_plain (program_of run.setup.program) ≡ true
 
 -- What a mode writes of a source. For `check` it is the line that tells what was accepted, and no record is kept. For
--- `serial` it is the report of a finished run of the source's program, and that run's record is kept.
+-- `serial` it is the report of a run of the source's program, and that run's record is kept.
 abbrev pub Text : Mode → List (List ℕ) → Option Store → Option RunRecord → List ℕ → Type 0
-Text Check words told None text = (program : typed.Program) × OfSource words Check told (IsAccepted program) × (text ≡ accepted_line program)
+Text Check words told None text = (program : Program) × OfSource words Check told (IsAccepted program) × (text ≡ accepted_line program)
 Text Check words told (Some run) text = ⊥
 Text Serial words told None text = ⊥
-Text Serial words told (Some run) text = IsFinishedRun run × OfSource words Serial told (IsFirst run.setup.program) × (text ≡ report_of run.ranks run.end)
+Text Serial words told (Some run) text = IsPlainRun run × OfSource words Serial told (IsAccepted (program_of run.setup.program)) × (text ≡ report_of run.ranks run.end)
 
--- The sink took the mode's whole text.
-pub record IsDone (words : List (List ℕ)) (told : Option Store) (kept : Option RunRecord) (taken taken' : Option (List ℕ)) : Type 0 where
+-- The sink took the mode's whole text, and the status is that of the run, or 0 for `check`.
+pub record IsDone (words : List (List ℕ)) (told : Option Store) (status : ℕ) (kept : Option RunRecord) (taken taken' : Option (List ℕ)) : Type 0 where
   pub mode : Mode
   pub text : List ℕ
   pub is : Text mode words told kept text
+  pub status_is : status ≡ made_status kept
   pub took : Took taken text taken'
 
--- The same, but the sink took a prefix of the text.
+-- The sink took a prefix of the mode's text.
 pub record IsCutShort (words : List (List ℕ)) (told : Option Store) (kept : Option RunRecord) (taken taken' : Option (List ℕ)) : Type 0 where
   pub mode : Mode
   pub text : List ℕ
@@ -93,4 +92,12 @@ pub record IsRefused (words : List (List ℕ)) (told : Option Store) (taken take
 
 -- the statuses that are answered
 abbrev pub is_status : ℕ → Bool
-is_status status = list_any (λ s. s == status) (0 ∷ 5 ∷ 6 ∷ 7 ∷ 8 ∷ 10 ∷ [])
+is_status status = list_any (λ s. s == status) (0 ∷ 1 ∷ 2 ∷ 5 ∷ 6 ∷ 7 ∷ 8 ∷ 10 ∷ [])
+
+-- the status is one behind a text, whole or cut short
+abbrev pub IsMade : ℕ → Type 0
+IsMade status = (status ≤ 2) ⊎ (status ≡ 8)
+
+-- the words name a source to be run
+abbrev pub RunsSource : List (List ℕ) → Type 0
+RunsSource words = (name : List ℕ) × NamesSource words Serial name

@@ -1,14 +1,7 @@
-pub mod KnownNames
-pub mod FirstSource
-pub mod FirstReader
-pub mod ReaderSeen
-pub mod FormatReader
-pub mod Outputs
-pub mod OneTask
-pub mod Walking
-pub mod Plain
 pub mod Command
 pub mod Sources
+pub mod RunStatuses
 pub mod Answers
 pub mod Sent
 pub mod Refusals
+pub mod Outcomes

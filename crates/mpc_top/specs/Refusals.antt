@@ -3,17 +3,18 @@ use Rattle.std.specs.Prelude.{◌≡◌, ◌≢◌, ℕ, List, [], Option, Some,
 use Rattle.mpc_base.specs.Causes.{Rose}
 use Rattle.mpc_base.specs.Told.{Store, Took, TookPrefix}
 use Rattle.run_model.specs.declared.records.RunRecord.{RunRecord}
-use Rattle.c_tree.specs.Programs as typed
+use Rattle.c_tree.specs.Programs.{Program}
+use Rattle.c_tree.specs.ProgramOf.{program_of}
 use Rattle.journal.specs.Report.{report_of}
 use Rattle.mpc_top.specs.declared.command.Mode.{Mode}
 use Rattle.mpc_top.specs.declared.command.Mode.TheVariants.{Check, Serial}
 use Rattle.mpc_top.specs.declared.sources.SourceRefusal.{SourceRefusal}
-use Rattle.mpc_top.specs.FirstSource.{FirstSource}
 use Rattle.mpc_top.specs.declared.refusals.Refusal.{Refusal}
 use Rattle.mpc_top.specs.declared.refusals.Refusal.TheVariants.{Usage, ReadFault, Source, Memory}
 use Rattle.mpc_top.specs.Command.{NamesSource, NamesNone}
 use Rattle.mpc_top.specs.Sources.{Accepted, Refuses, RefusesContent, refusal_line, accepted_line}
-use Rattle.mpc_top.specs.Answers.{OfSource, WroteLine, IsFinishedRun, Text, usage_line, read_fault_line}
+use Rattle.mpc_top.specs.Answers.{OfSource, WroteLine, IsPlainRun, Text, usage_line, read_fault_line}
+use Rattle.mpc_top.specs.RunStatuses.{made_status}
 
 abbrev pub status_for : Refusal → ℕ
 status_for Usage = 6
@@ -37,23 +38,21 @@ Holds ReadFault words told faults faults' = (mode : Mode) × OfSource words mode
 Holds (Source refusal) words told faults faults' = (mode : Mode) × OfSource words mode told (Refuses mode refusal) × (Rose faults faults' → ⊥)
 Holds Memory words told faults faults' = (mode : Mode) × OfSource words mode told IsAny
 
--- The text was written whole, with status 0, or a prefix of it because the sink failed, with status 8.
-pub record Showed (status : ℕ) (text : List ℕ) (taken taken' : Option (List ℕ)) (faults faults' : ℕ) : Type 0 where
-  pub prefix : TookPrefix taken text taken'
-  pub whole : status ≡ 0 → Took taken text taken'
-  pub cause : status ≢ 0 → (status ≡ 8) × Rose faults faults'
+-- the text was written whole, with the status of what was made, or a prefix of it because the sink failed, with status 8
+abbrev pub Showed : ℕ → ℕ → List ℕ → Option (List ℕ) → Option (List ℕ) → ℕ → ℕ → Type 0
+Showed made status text taken taken' faults faults' = ((status ≡ made) × Took taken text taken') ⊎ ((status ≡ 8) × TookPrefix taken text taken' × Rose faults faults')
 
--- What a mode makes of an accepted source: a text, and the record of the run for `serial`.
+-- What a mode makes of a source: a text, and the record of the run for `serial`.
 abbrev pub MadeOf : Mode → List ℕ → List ℕ → Option RunRecord → Type 0
-MadeOf Check src text None = (program : typed.Program) × Accepted src program × (text ≡ accepted_line program)
+MadeOf Check src text None = (program : Program) × Accepted src program × (text ≡ accepted_line program)
 MadeOf Check src text (Some run) = ⊥
 MadeOf Serial src text None = ⊥
-MadeOf Serial src text (Some run) = IsFinishedRun run × (FirstSource src run.setup.program × ((accepted : typed.Program) × Accepted src accepted)) × (text ≡ report_of run.ranks run.end)
+MadeOf Serial src text (Some run) = IsPlainRun run × Accepted src (program_of run.setup.program) × (text ≡ report_of run.ranks run.end)
 
--- the report of a finished run of the program of a first source, and the run's record
-abbrev pub RunOf : List ℕ → List ℕ → Option RunRecord → Type 0
-RunOf src text None = ⊥
-RunOf src text (Some run) = IsFinishedRun run × FirstSource src run.setup.program × (text ≡ report_of run.ranks run.end)
+-- the report of a run of a plain program, and the run's record
+abbrev pub RunOf : Program → List ℕ → Option RunRecord → Type 0
+RunOf program text None = ⊥
+RunOf program text (Some run) = IsPlainRun run × (program_of run.setup.program ≡ program) × (text ≡ report_of run.ranks run.end)
 
 -- Memory was wanted and not found, and nothing was written.
 pub record WasShort (status : ℕ) (kept : Option RunRecord) (taken taken' : Option (List ℕ)) : Type 0 where
@@ -74,7 +73,7 @@ pub record WasShown (words : List (List ℕ)) (told : Option Store) (status : �
   pub mode : Mode
   pub text : List ℕ
   pub is : Text mode words told kept text
-  pub showed : Showed status text taken taken' write_faults write_faults'
+  pub showed : Showed (made_status kept) status text taken taken' write_faults write_faults'
 
 -- A refusal was told: its status and its line.
 pub record Closes (refusal : Refusal) (status : ℕ) (kept : Option RunRecord) (taken taken' : Option (List ℕ)) (write_faults write_faults' : ℕ) : Type 0 where
@@ -86,7 +85,7 @@ pub record Closes (refusal : Refusal) (status : ℕ) (kept : Option RunRecord) (
 abbrev pub SourceAnswered : Mode → List ℕ → ℕ → Option RunRecord → Option (List ℕ) → Option (List ℕ) → ℕ → ℕ → Type 0
 SourceAnswered mode src status kept taken taken' write_faults write_faults' =
     ((refusal : SourceRefusal) × RefusesContent mode refusal src × Closes (Source refusal) status kept taken taken' write_faults write_faults')
-    ⊎ (((text : List ℕ) × MadeOf mode src text kept × Showed status text taken taken' write_faults write_faults') ⊎ WasShort status kept taken taken')
+    ⊎ (((text : List ℕ) × MadeOf mode src text kept × Showed (made_status kept) status text taken taken' write_faults write_faults') ⊎ WasShort status kept taken taken')
 
 -- what a call has done
 abbrev pub Answered : List (List ℕ) → Option Store → ℕ → ℕ → ℕ → Option RunRecord → Option (List ℕ) → Option (List ℕ) → ℕ → ℕ → Type 0

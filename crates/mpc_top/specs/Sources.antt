@@ -1,5 +1,5 @@
 -- Which sources are accepted, and why others are refused.
-use Rattle.std.specs.Prelude.{◌≡◌, ◌≤◌, ◌<◌, ℕ, List, ◌++◌, length, codes, Option, Some, None, is_some, filter}
+use Rattle.std.specs.Prelude.{◌≡◌, ◌≤◌, ◌<◌, ℕ, List, ◌++◌, length, codes, Option, Some, None, is_some, filter, false}
 use Rattle.std.specs.Fmt.{decimal}
 use Rattle.mpc_base.specs.declared.owners.StaticVar.{StaticVar}
 use Rattle.c_lex.specs.declared.tokens.Token.{Token}
@@ -12,11 +12,11 @@ use Rattle.c_tree.specs.Syntax.{Tree}
 use Rattle.c_tree.specs.Programs.{Program}
 use Rattle.c_types.specs.Typing.{Typed}
 use Rattle.c_types.specs.Typing as typing
+use Rattle.c_compile.specs.Plain.{is_plain}
 use Rattle.mpc_top.specs.declared.command.Mode.{Mode}
 use Rattle.mpc_top.specs.declared.command.Mode.TheVariants as mode
 use Rattle.mpc_top.specs.declared.sources.SourceRefusal.{SourceRefusal}
 use Rattle.mpc_top.specs.declared.sources.SourceRefusal.TheVariants as refusal
-use Rattle.mpc_top.specs.FirstSource.{NotFirst}
 
 -- the most bytes of a source
 abbrev pub source_limit : ℕ
@@ -39,7 +39,8 @@ pub record Accepted (src : List ℕ) (program : Program) : Type 0 where
   pub has : HasTree src tree
   pub typed : Typed tree program
 
--- the content of a file is refused for this
+-- The content of a file is refused for this. A source that is accepted is not run, for not being built yet, where its program
+-- calls an MPI function, has a single or a barrier, or has a variable with a level.
 abbrev pub RefusesContent : Mode → SourceRefusal → List ℕ → Type 0
 RefusesContent m refusal.Missing src = ⊥
 RefusesContent m refusal.TooLong src = source_limit < length src
@@ -47,7 +48,7 @@ RefusesContent m (refusal.Lex at) src = (length src ≤ source_limit) × lexed.R
 RefusesContent m (refusal.Parse at) src = (tokens : List Token) × HasTokens src tokens × parsed.RefusedAt src tokens at
 RefusesContent m (refusal.Type broken) src = (tree : Tree) × HasTree src tree × typing.Refused tree broken
 RefusesContent mode.Check refusal.NotBuilt src = ⊥
-RefusesContent mode.Serial refusal.NotBuilt src = (program : Program) × Accepted src program × NotFirst src
+RefusesContent mode.Serial refusal.NotBuilt src = (program : Program) × Accepted src program × (is_plain program ≡ false)
 
 -- a file is refused for this: it is missing, or its content is refused
 abbrev pub Refuses : Mode → SourceRefusal → Option (List ℕ) → Type 0

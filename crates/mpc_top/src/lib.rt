@@ -2,22 +2,15 @@
 #![tactic(auto)]
 
 mod command;
-mod first_names;
-mod first_program;
-mod first_reader;
-mod first_run;
-mod first_source;
-mod first_statement;
-mod first_texts;
-mod known;
-mod one_task;
+mod laws;
 mod outputs;
-mod pieces;
+mod plain;
 mod refusals;
 mod sources;
+mod statuses;
 mod top;
-mod walking;
 
+pub use laws::a_command_has_one_outcome;
 pub use top::{Top, mpc_serial};
 
 #[cfg(test)]

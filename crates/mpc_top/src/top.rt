@@ -1,25 +1,29 @@
 //! The top call: from the command's words to the text that is written and the status.
-ghost use Rattle.std.specs.Prelude.{◌≡◌, ◌≢◌, ◌≤◌, ◌↔◌, ℕ, List, Option, length, map, string_bytes, None, Some, OnOk, IfOk, OnErr, IfErr, IfSome, MatchOption, ◌⊎◌, true};
+ghost use Rattle.std.specs.Prelude.{◌≡◌, ◌≢◌, ◌≤◌, ◌↔◌, ℕ, List, Option, length, map, string_bytes, None, Some, OnOk, IfOk, OnErr, IfErr, IfSome, IsSome, ◌⊎◌, true};
 ghost use Rattle.mpc_base.specs.Causes.{Rose, HasCause};
 ghost use Rattle.mpc_base.specs.Told.{Took, TookPrefix, content_of};
 ghost use Rattle.c_tree.specs.ProgramOf.{program_of};
+ghost use Rattle.c_compile.specs.Correct.{HasMain};
+ghost use Rattle.c_compile.specs.Plain.{is_plain};
 ghost use Rattle.mpc_top.specs.Command.{NamesSource, NamesNone};
 ghost use Rattle.mpc_top.specs.Sources.{Refuses, RefusesContent, refusal_line, accepted_line};
-ghost use Rattle.mpc_top.specs.FirstSource.{NotFirst};
-ghost use Rattle.mpc_top.specs.Answers.{ToldSource, WroteLine, IsDone, IsCutShort, IsRefused, IsGood, is_status, usage_line, read_fault_line};
+ghost use Rattle.mpc_top.specs.RunStatuses.{made_status, IsStatusOf};
+ghost use Rattle.mpc_top.specs.Answers.{ToldSource, WroteLine, IsDone, IsCutShort, IsRefused, IsGood, RunsSource, IsMade, is_status, usage_line, read_fault_line};
 ghost use Rattle.mpc_top.specs.Refusals.{Holds, MadeOf, RunOf, line_for, Closes, Showed, WasShort, SourceAnswered, Answered};
 ghost use Rattle.mpc_top.specs.declared.command.Mode.{Mode};
 ghost use Rattle.mpc_top.specs.declared.sources.SourceRefusal.{SourceRefusal};
 
 use crate::command::{Mode, source_named};
-use crate::first_run::run_first;
-use crate::first_source::first_program;
 use crate::outputs::write_all;
+use crate::plain::is_plain;
 use crate::refusals::Refusal;
 use crate::sources::{SOURCE_LIMIT, SourceRefusal, accept, accepted_text};
+use crate::statuses::status_of;
+use c_tree::program::Program;
 use journal::report;
 use mpc_base::{Files, Memory, ReadAnswer, Sink};
 use run_model::{RunRecord, Setup};
+use serial_run::run_serial;
 use std::alloc::Global;
 
 /// The exit status, and the record of the run where one was made.
@@ -29,10 +33,11 @@ pub struct Top {
     pub kept: Option<RunRecord>,
 }
 
-// What a mode writes, and the record of the run where one was made.
+// What a mode writes, its status, and the record of the run where one was made.
 #[derive(Drop)]
 struct Made {
     text: Vec<u8>,
+    status: u8,
     kept: Option<RunRecord>,
 }
 
@@ -61,36 +66,41 @@ fn read_source<F: Files>(
 }
 
 // The line of an accepted source.
-fn check_text(alloc: Global, program: &c_tree::program::Program) -> Result<Made, Memory>
+fn check_text(alloc: Global, program: &Program) -> Result<Made, Memory>
     ensures text { IfOk result (λ made. made.text.items ≡ accepted_line (program_of program.now)) }
+    ensures status { IfOk result (λ made. made.status ≡ made_status made.kept) }
     ensures kept { IfOk result (λ made. made.kept ≡ None) }
 {
     let line = accepted_text(alloc, program)?;
     Ok(Made {
         text: line.into_bytes(),
+        status: 0,
         kept: None,
     })
 }
 
-// The report and the record of a first source's run, where the source is one.
-fn serial_text(alloc: Global, src: &[u8]) -> Result<Option<Made>, Memory>
-    ensures { IfOk result (λ r. MatchOption r (NotFirst src.now) (λ made. RunOf src.now made.text.items made.kept)) }
+// The report of a plain program's run, and the run's record.
+fn serial_text(alloc: Global, program: Program) -> Result<Made, Memory>
+    requires main { HasMain (program_of program) }
+    requires plain { is_plain (program_of program) ≡ true }
+    ensures run { IfOk result (λ made. RunOf (program_of program) made.text.items made.kept) }
+    ensures status { IfOk result (λ made. made.status ≡ made_status made.kept) }
 {
-    let Some(program) = first_program(alloc, src)? else {
-        return Ok(None);
-    };
-    let run = run_first(alloc, Setup { program })?;
+    let run = run_serial(alloc, Setup { program })?;
     let text = report(alloc, &run)?;
-    Ok(Some(Made {
+    let status = status_of(&run);
+    Ok(Made {
         text,
+        status,
         kept: Some(run),
-    }))
+    })
 }
 
 // What a mode makes of a source, or why the source is refused.
 fn make(alloc: Global, mode: Mode, src: &[u8]) -> Result<Result<Made, SourceRefusal>, Memory>
     requires small { length src.now ≤ 1048576 }
     ensures made { IfOk result (λ r. IfOk r (λ made. MadeOf mode src.now made.text.items made.kept)) }
+    ensures status { IfOk result (λ r. IfOk r (λ made. made.status ≡ made_status made.kept)) }
     ensures refused { IfOk result (λ r. IfErr r (λ refusal. RefusesContent mode refusal src.now)) }
 {
     let program = match accept(alloc, src)? {
@@ -99,10 +109,12 @@ fn make(alloc: Global, mode: Mode, src: &[u8]) -> Result<Result<Made, SourceRefu
     };
     match mode {
         Mode::Check => Ok(Ok(check_text(alloc, &program)?)),
-        Mode::Serial => match serial_text(alloc, src)? {
-            Some(made) => Ok(Ok(made)),
-            None => Ok(Err(SourceRefusal::NotBuilt)),
-        },
+        Mode::Serial => {
+            if !is_plain(&program) {
+                return Ok(Err(SourceRefusal::NotBuilt));
+            }
+            Ok(Ok(serial_text(alloc, program)?))
+        }
     }
 }
 
@@ -143,12 +155,12 @@ fn refuse<K: Sink>(alloc: Global, out: &mut K, refusal: Refusal) -> Top
     }
 }
 
-// Writes a text, and tells the status.
-fn show<K: Sink>(out: &mut K, text: &[u8]) -> u8
-    ensures { Showed result text.now (K.taken out.old) (K.taken out.new) (K.faults out.old) (K.faults out.new) }
+// Writes a text, and tells the status: its own, or 8.
+fn show<K: Sink>(out: &mut K, text: &[u8], status: u8) -> u8
+    ensures { Showed status result text.now (K.taken out.old) (K.taken out.new) (K.faults out.old) (K.faults out.new) }
 {
     match write_all(out, text) {
-        Ok(()) => 0,
+        Ok(()) => status,
         Err(_) => 8,
     }
 }
@@ -162,7 +174,7 @@ fn answer_source<K: Sink>(alloc: Global, mode: Mode, src: &[u8], out: &mut K) ->
         Err(_) => short(),
         Ok(Err(refusal)) => refuse(alloc, out, Refusal::Source(refusal)),
         Ok(Ok(made)) => {
-            let status = show(out, made.text.as_slice());
+            let status = show(out, made.text.as_slice(), made.status);
             Top {
                 status,
                 kept: made.kept,
@@ -189,17 +201,19 @@ fn answer<F: Files, K: Sink>(alloc: Global, words: &[String], files: &mut F, out
 /// does not begin with a dash. It reads the source and checks it. For `check` it writes what was
 /// accepted; for `serial` it runs the program as one task, and writes the report.
 ///
-/// The status is 0 where that was done; 5 where there is no such file, the source is refused, or it is
-/// not run yet; 6 for other words; 7 where the read failed; 8 where the sink failed in the text; and 10,
-/// with nothing written, where memory was wanted and not found. With 5, 6 and 7 a line stands in place
-/// of the text.
+/// The status is 0 where that was done, and for `serial` 1 where the exit code of main is not 0, and 2
+/// where a fault ended the run; 5 where there is no such file, the source is refused, or its program
+/// uses an MPI function or shares a variable; 6 for other words; 7 where the read failed; 8 where the
+/// sink failed in the text; and 10, with nothing written, where memory was wanted and not found. With 5,
+/// 6 and 7 a line stands in place of the text. The run's record is kept with 0, 1, 2 and 8.
 pub fn mpc_serial<F: Files, K: Sink>(
     alloc: Global,
     words: &[String],
     files: &mut F,
     out: &mut K,
 ) -> Top
-    ensures done { result.status ≡ 0 → IsDone (map string_bytes words.now) (F.told files.old) result.kept (K.taken out.old) (K.taken out.new) }
+    ensures done { result.status ≤ 2 → IsDone (map string_bytes words.now) (F.told files.old) result.status result.kept (K.taken out.old) (K.taken out.new) }
+    ensures run { IfSome result.kept (λ run. result.status ≢ 8 → IsStatusOf run result.status) }
     ensures write_fault { result.status ≡ 8 → IsCutShort (map string_bytes words.now) (F.told files.old) result.kept (K.taken out.old) (K.taken out.new) }
     ensures sink_failed { result.status ≡ 8 → Rose (K.faults out.old) (K.faults out.new) }
     ensures usage { (result.status ≡ 6) ↔ NamesNone (map string_bytes words.now) }
@@ -211,9 +225,9 @@ pub fn mpc_serial<F: Files, K: Sink>(
     ensures refuses { (mode : Mode) (refusal : SourceRefusal) → ToldSource (map string_bytes words.now) mode (F.told files.old) (Refuses mode refusal) → (Rose (F.faults files.old) (F.faults files.new) → ⊥) → result.status ≢ 10
         → (result.status ≡ 5) × WroteLine (refusal_line refusal) (K.taken out.old) (K.taken out.new) (K.faults out.old) (K.faults out.new) }
     ensures complete { (mode : Mode) → ToldSource (map string_bytes words.now) mode (F.told files.old) (IsGood mode) → (Rose (F.faults files.old) (F.faults files.new) → ⊥)
-        → (Rose (K.faults out.old) (K.faults out.new) → ⊥) → result.status ≢ 10 → result.status ≡ 0 }
+        → (Rose (K.faults out.old) (K.faults out.new) → ⊥) → result.status ≢ 10 → result.status ≡ made_status result.kept }
     ensures memory { result.status ≡ 10 → K.taken out.new ≡ K.taken out.old }
-    ensures kept { result.status ≢ 0 → result.status ≢ 8 → result.kept ≡ None }
+    ensures kept { IsSome result.kept ↔ (RunsSource (map string_bytes words.now) × IsMade result.status) }
     ensures statuses { is_status result.status ≡ true }
     ensures files { F.told files.new ≡ F.told files.old }
 {
