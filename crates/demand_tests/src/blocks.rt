@@ -173,7 +173,7 @@ fn locals_are_dropped_where_control_leaves_their_block(rt: HostRuntime) -> Resul
     play(&rt, rt.alloc(), &BLOCKS)
 }
 
-const HEADS: [Row; 6] = [
+const HEADS: [Row; 7] = [
     // The declaration has its own line; the condition, the step and the drop have that of the for.
     (
         "int main(void) {
@@ -198,6 +198,37 @@ const HEADS: [Row; 6] = [
             "7 load d1+0 > i1",
             "2 drop d1 > ok",
             "10 finish 0",
+        ],
+    ),
+    // So have calls of functions: what a call makes at its entry has the line of what calls it.
+    (
+        "int f(int a) { &a; return a; }
+int main(void) {
+  for (
+      int i =
+        f(0);
+      f(i) < 1;
+      i = f(1))
+    ;
+}",
+        &[
+            "4 new 1 > d1+0",
+            "4 store d1+0 i0 > ok",
+            "1 load d1+0 > i0",
+            "1 drop d1 > ok",
+            "3 new 1 > d2+0",
+            "3 store d2+0 i0 > ok",
+            "1 load d2+0 > i0",
+            "1 drop d2 > ok",
+            "3 new 1 > d3+0",
+            "3 store d3+0 i1 > ok",
+            "1 load d3+0 > i1",
+            "1 drop d3 > ok",
+            "3 new 1 > d4+0",
+            "3 store d4+0 i1 > ok",
+            "1 load d4+0 > i1",
+            "1 drop d4 > ok",
+            "9 finish 0",
         ],
     ),
     // The condition fails.

@@ -228,7 +228,7 @@ fn steps_load_and_store(rt: HostRuntime) -> Result<(), Fail> {
     play_in(&rt, rt.alloc(), BEFORE, &STEPS)
 }
 
-const POINTERS: [Row; 13] = [
+const POINTERS: [Row; 14] = [
     (
         "int a[4];
 int main(void) {
@@ -342,6 +342,16 @@ int main(void) {
         &["3 broke Bounds"],
     ),
     // An element of MPI_Status has three words.
+    (
+        "MPI_Status t[2];
+int f(MPI_Status s[]) {
+  return s[1].MPI_TAG + (*s).MPI_SOURCE;
+}
+int main(void) {
+  return f(t);
+}",
+        &["3 load g0+4 > i1", "3 load g0+0 > i2", "6 finish 3"],
+    ),
     (
         "int main(void) {
   MPI_Status s[2], t;

@@ -101,7 +101,7 @@ fn operations_give_what_c_gives(rt: HostRuntime) -> Result<(), Fail> {
 }
 
 // Expressions behind `int i = 1, least = -2147483647 - 1; long big = 9223372036854775807;`, and the fault.
-const FAULTS: [Row; 26] = [
+const FAULTS: [Row; 27] = [
     ("2147483647 + i; }", &["1 broke Overflow"]),
     ("least - i; }", &["1 broke Overflow"]),
     ("65536 * 32768; }", &["1 broke Overflow"]),
@@ -125,6 +125,7 @@ const FAULTS: [Row; 26] = [
     ("i << 4294967296; }", &["1 broke Shift"]),
     ("1L >> 64; }", &["1 broke Shift"]),
     ("i += 2147483647; }", &["1 broke Overflow"]),
+    ("i += big; }", &["1 broke Overflow"]),
     ("i <<= 40; }", &["1 broke Shift"]),
     ("least--; }", &["1 broke Overflow"]),
     ("++big; }", &["1 broke Overflow"]),
@@ -138,7 +139,7 @@ fn results_outside_their_type_are_faults(rt: HostRuntime) -> Result<(), Fail> {
     play_in(&rt, rt.alloc(), BEFORE, &FAULTS)
 }
 
-const NARROWING: [Row; 6] = [
+const NARROWING: [Row; 7] = [
     // Storing, and initializing: the value of an assignment is what was stored.
     (
         "int x;
@@ -200,6 +201,10 @@ int main(void) {
         ],
     ),
     ("int main(void) { return 4294967301; }", &["1 finish 5"]),
+    (
+        "int main(void) { return 1 ? 4294967298 : 0; }",
+        &["1 finish 2"],
+    ),
     (
         "int main(void) { return (int)(long)4294967302L; }",
         &["1 finish 6"],
