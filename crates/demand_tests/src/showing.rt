@@ -62,7 +62,7 @@ fn shown_words(alloc: Global, words: &[Word]) -> Result<String, AllocError> {
     Ok(text)
 }
 
-// The fields of a posting, a probe or a call on a request.
+// The fields of a posting, a probe or a call on several requests.
 fn shown_message(alloc: Global, call: &Call) -> Result<String, AllocError> {
     match call {
         Call::Send {
@@ -91,10 +91,6 @@ fn shown_message(alloc: Global, call: &Call) -> Result<String, AllocError> {
             let comm = shown_word(alloc, *comm)?;
             format!(in alloc; " {at} {count} {kind:?} {peer} {tag} {comm}")
         }
-        Call::Complete { req } | Call::Test { req } => {
-            let req = shown_word(alloc, *req)?;
-            format!(in alloc; " {req}")
-        }
         Call::AnyOf { reqs } => shown_words(alloc, reqs.as_slice()),
         Call::Probe { peer, tag, comm } | Call::Iprobe { peer, tag, comm } => {
             let comm = shown_word(alloc, *comm)?;
@@ -115,6 +111,10 @@ fn shown_fields(alloc: Global, call: &Call) -> Result<String, AllocError> {
             let at = shown_word(alloc, *at)?;
             let word = shown_word(alloc, *word)?;
             format!(in alloc; " {at} {word}")
+        }
+        Call::Complete { req } | Call::Test { req } => {
+            let req = shown_word(alloc, *req)?;
+            format!(in alloc; " {req}")
         }
         Call::Drop { obj } => {
             let obj = shown_obj(alloc, *obj)?;
