@@ -13,6 +13,7 @@ mod collectives;
 mod directives;
 #[cfg(test)]
 mod expressions;
+pub mod fitting;
 #[cfg(test)]
 mod library;
 #[cfg(test)]

@@ -5,7 +5,8 @@ ghost use Rattle.task_vm.specs.Tasks.{IsAsking};
 ghost use Rattle.c_tree.specs.ProgramOf.{program_of};
 ghost use Rattle.c_compile.specs.Correct.{HasMain};
 
-use crate::answering::{answer_of, ends, fits};
+use crate::answering::answer_of;
+use crate::fitting::{ends, fits};
 use crate::showing::shown;
 use c_compile::compile;
 use c_lex::lex;
