@@ -10,7 +10,7 @@ use Rattle.c_parse.specs.declared.symbols.Mark.{Mark}
 use Rattle.c_parse.specs.declared.symbols.Mark.TheVariants as mark
 use Rattle.c_parse.specs.Symbols.{Sym}
 use Rattle.c_parse.specs.Signs.{is_mark, is_key, is_name}
-use Rattle.c_parse.specs.Phrases.{Phrase, nothing, give, one, ◌or◌}
+use Rattle.c_parse.specs.Phrases.{Phrase, give, ◌or◌}
 use Rattle.c_parse.specs.Phrases as ph
 use Rattle.c_parse.specs.Reading.{Read, Got, Fails, Reader, and_then, ◌>>=◌, pure, refuse, class_at, behind, sees, sees_key, behind_if, eat, eat_key, expect, expect_key, name, repeat_from}
 use Rattle.c_parse.specs.Grammar.{one_if, one_as, mark_, key_, name_, flag, when}

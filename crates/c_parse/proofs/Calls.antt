@@ -6,7 +6,7 @@ use Rattle.c_tree.specs.declared.syntax.Expr.TheVariants.{Call}
 use Rattle.c_tree.specs.Syntax as x
 use Rattle.c_tree.specs.SyntaxOf.{expr_of, exprs_of}
 use Rattle.c_tree.proofs.SyntaxRows.{call_is}
-use Rattle.c_parse.specs.Expressions.{arguments_of}
+use Rattle.c_parse.specs.Grammar.{arguments_of}
 
 same_arguments : (es : List Expr) → exprs_of es ≡ arguments_of (map expr_of es)
 same_arguments [] = refl

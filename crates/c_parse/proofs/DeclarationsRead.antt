@@ -5,16 +5,15 @@ use Rattle.c_tree.specs.declared.syntax.Base.{Base}
 use Rattle.c_tree.specs.declared.syntax.Param.{Param}
 use Rattle.c_tree.specs.declared.syntax.ParamType.TheVariants.{Arguments}
 use Rattle.c_tree.specs.Syntax as x
-use Rattle.c_parse.specs.declared.symbols.Class.{Class}
 use Rattle.c_parse.specs.declared.symbols.Class.TheVariants as class
 use Rattle.c_parse.specs.declared.symbols.Key.TheVariants as key
 use Rattle.c_parse.specs.declared.symbols.Mark.TheVariants as mark
 use Rattle.c_parse.specs.declared.grammar.Part.TheVariants as part
 use Rattle.c_parse.specs.Symbols.{Sym}
-use Rattle.c_parse.specs.Signs.{is_mark, is_key, is_star}
-use Rattle.c_parse.specs.Phrases.{Phrase, give, ◌or◌, placed}
+use Rattle.c_parse.specs.Signs.{is_mark, is_key, is_star, is_equals}
+use Rattle.c_parse.specs.Phrases.{give, ◌or◌}
 use Rattle.c_parse.specs.Phrases as ph
-use Rattle.c_parse.specs.Reading.{Read, Got, Fails, Reader, and_then, ◌>>=◌, pure, refuse, class_at, behind, sees, sees_key, behind_if, eat, eat_key, expect, expect_key, name, here, no_comma}
+use Rattle.c_parse.specs.Reading.{Read, Got, Reader, and_then, ◌>>=◌, pure, class_at, behind, sees, sees_key, behind_if, eat_key, expect, name, no_comma}
 use Rattle.c_parse.specs.Reading as rd
 use Rattle.c_parse.specs.Expressions as ex
 use Rattle.c_parse.specs.Declarations as dc
@@ -56,17 +55,10 @@ value_exact d = by_reader _ (branch_exact (is_mark mark.OpenBrace) (34 ∷ []) (
     (map_same (λ found. x.Value found) (expression_exact d part.Assign)) refl (λ _. refl) (λ _. refl) (λ e. cc))
     (λ ts. eaten (is_mark mark.OpenBrace (class_at ts)) ts _ _)
 
-equals_are : (c : Class) → dc.is_equals c ≡ dg.is_equals c
-equals_are (class.Assign None) = refl
-equals_are c = refl
-
 initializer_exact : (d : ℕ) → Exact (dg.initializer d) (dc.initializer d) (9 ∷ []) (λ _. after part.Assign) false
 unfolding dg.initializer dc.initializer dc.sees_equals
-initializer_exact d = by_reader _ (branch_exact dg.is_equals EQUALS (λ _. after part.Assign) in_equals refl refl (value_exact d) (give_exact x.Nothing) refl (λ _. refl) (λ _. refl) (λ _ _ _. refl))
-    (λ ts. equals_is ts)
-  where
-    equals_is : (ts : List Sym) → and_then (Got (dc.is_equals (class_at ts)) (behind_if (dc.is_equals (class_at ts)) ts)) (λ has. if has then dc.value d else pure x.Nothing) ≡ (if dg.is_equals (class_at ts) then dc.value d (behind ts) else pure x.Nothing ts)
-    equals_is ts = eaten (dc.is_equals (class_at ts)) ts (dc.value d) (pure x.Nothing) ∙ ap (λ b. if b then dc.value d (behind ts) else pure x.Nothing ts) (equals_are (class_at ts))
+initializer_exact d = by_reader _ (branch_exact is_equals EQUALS (λ _. after part.Assign) in_equals refl refl (value_exact d) (give_exact x.Nothing) refl (λ _. refl) (λ _. refl) (λ _ _ _. refl))
+    (λ ts. eaten (is_equals (class_at ts)) ts (dc.value d) (pure x.Nothing))
 
 pub declared_exact : (d : ℕ) (at : Place) (pointer : Bool) (called : List ℕ) → Exact (dg.declared d at pointer called) (dc.declared d at pointer called) (32 ∷ 9 ∷ []) (λ _. after part.Assign) false
 unfolding dg.declared dc.declared
@@ -101,21 +93,17 @@ declaration_exact d = placed_exact _ (parted_read d) (14 ∷ BASES) (λ _. []) (
 
 -- ---- parameters
 
-is_array_exact : (pointer : Bool) → Exact (dg.is_array pointer) (dc.is_array pointer) (32 ∷ []) (λ _. 32 ∷ []) false
-unfolding dg.is_array dc.is_array dc.begins_length sees
+is_array_exact : (pointer : Bool) → Exact (dg.is_array pointer) (dc.eat_brackets pointer) (32 ∷ []) (λ _. 32 ∷ []) false
+unfolding dg.is_array dc.eat_brackets dc.begins_length sees
 is_array_exact true = widen (32 ∷ []) (λ _. 32 ∷ []) (by_reader _ (give_exact false) (λ ts. eaten false ts (expect mark.CloseSquare >>= (λ _. pure true)) (pure false))) refl (λ _. refl)
 is_array_exact false = by_reader _ (branch_exact (is_mark mark.OpenSquare) (32 ∷ []) (λ _. 32 ∷ []) (in_mark mark.OpenSquare) refl refl
     (token_then (mark_exact mark.CloseSquare) (λ _. give_exact true)) (give_exact false) refl (λ _. refl) (λ _. refl) (λ _ _ _. refl))
     (λ ts. eaten (is_mark mark.OpenSquare (class_at ts)) ts (expect mark.CloseSquare >>= (λ _. pure true)) (pure false))
 
-type_same : (base : Base) (pointer array : Bool) → dc.param_type base pointer array ≡ dg.param_type base pointer array
-type_same base pointer true = refl
-type_same base pointer false = refl
-
 typed_exact : (at : Place) → Exact (dg.typed_param at) (dc.typed_param at) BASES (λ _. 32 ∷ []) true
 unfolding dg.typed_param dc.typed_param
 typed_exact at = by_reader _ (seq type_base_exact (λ base. maybe_seq (star_exact base) (λ pointer. token_then name_exact (λ called. map_same (λ array. record { at = at; param_type = dg.param_type base pointer array; name = called }) (is_array_exact pointer))) refl) refl)
-    (λ ts. then_same (ex.type_base ts) (λ base us. then_same (ex.star base us) (λ pointer vs. then_same (name vs) (λ called ws. then_same (dc.is_array pointer ws) (λ array zs. ap (λ t. Got (record { at = at; param_type = t; name = called }) zs) (type_same base pointer array))))))
+    (λ ts. refl)
 
 star_is : (ts : List Sym) → dc.expect_star ts ≡ take_one (λ s. if is_star s.class then Some tt else None) ts
 unfolding dc.expect_star dc.sees_any_star

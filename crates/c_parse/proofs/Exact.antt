@@ -3,7 +3,7 @@ use Rattle.std.proofs.Common.{◌≡◌, ℕ, ◌⊎◌, inl, inr, ⊎_elim, ◌
 use Rattle.c_parse.specs.declared.symbols.Class.TheVariants as class
 use Rattle.c_parse.specs.Symbols.{Sym}
 use Rattle.c_parse.specs.Parsed.{NoneRefused}
-use Rattle.c_parse.specs.Phrases.{Phrase, Cut, IsOne, nothing, give, one, ◌or◌, place_of, placed, Steps, StepsFront}
+use Rattle.c_parse.specs.Phrases.{Phrase, Cut, IsOne, nothing, give, one, ◌or◌}
 use Rattle.c_parse.specs.Phrases as ph
 use Rattle.c_parse.specs.Reading.{Read, Got, Fails, Reader, and_then, ◌>>=◌, pure}
 use Rattle.c_parse.proofs.Sets.{code, is_in, within, within_in, within_no}

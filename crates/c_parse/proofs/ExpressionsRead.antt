@@ -12,12 +12,12 @@ use Rattle.c_parse.specs.declared.grammar.Part.{Part}
 use Rattle.c_parse.specs.declared.grammar.Part.TheVariants as part
 use Rattle.c_parse.specs.Symbols.{Sym}
 use Rattle.c_parse.specs.Signs.{is_mark, binary_of, assigns}
-use Rattle.c_parse.specs.Phrases.{Phrase, nothing, give, one, ◌or◌, placed}
+use Rattle.c_parse.specs.Phrases.{Phrase, nothing, give, ◌or◌, placed}
 use Rattle.c_parse.specs.Phrases as ph
-use Rattle.c_parse.specs.Reading.{Read, Got, Fails, Reader, and_then, ◌>>=◌, pure, refuse, class_at, behind, sees, behind_if, eat, expect, here}
+use Rattle.c_parse.specs.Reading.{Read, Got, Fails, Reader, and_then, ◌>>=◌, pure, refuse, class_at, sees, here}
 use Rattle.c_parse.specs.Reading as rd
 use Rattle.c_parse.specs.Expressions as ex
-use Rattle.c_parse.specs.Grammar.{one_if, one_as, mark_}
+use Rattle.c_parse.specs.Grammar.{one_as}
 use Rattle.c_parse.specs.Grammar as gr
 use Rattle.c_parse.proofs.Sets.{code, is_in, apart, within, within_no}
 use Rattle.c_parse.proofs.ClassTests.{in_mark, in_level, in_assigns, ASSIGNS, level_codes, tighter_codes}

@@ -16,16 +16,15 @@ use Rattle.c_parse.specs.Symbols.{Sym}
 use Rattle.c_parse.specs.Signs.{is_mark, is_key}
 use Rattle.c_parse.specs.Phrases.{Phrase, give, one, ◌or◌, placed}
 use Rattle.c_parse.specs.Phrases as ph
-use Rattle.c_parse.specs.Reading.{Read, Got, Fails, Reader, and_then, ◌>>=◌, pure, refuse, class_at, behind, sees, sees_key, behind_if, eat, eat_key, expect, name, here, no_comma}
+use Rattle.c_parse.specs.Reading.{Reader, ◌>>=◌, pure, class_at, sees, sees_key, expect, name, no_comma}
 use Rattle.c_parse.specs.Reading as rd
 use Rattle.c_parse.specs.Expressions as ex
 use Rattle.c_parse.specs.Declarations as dc
 use Rattle.c_parse.specs.Sources as so
-use Rattle.c_parse.specs.Sources.{most_deep}
-use Rattle.c_parse.specs.Grammar.{one_if, mark_, key_, name_, flag}
+use Rattle.c_parse.specs.SourceGrammar.{most_deep, scope_as, scope_by}
+use Rattle.c_parse.specs.Grammar.{mark_, key_, name_, flag}
 use Rattle.c_parse.specs.Grammar as gr
 use Rattle.c_parse.specs.DeclarationGrammar as dg
-use Rattle.c_parse.specs.SourceGrammar.{scope_as, scope_by}
 use Rattle.c_parse.specs.SourceGrammar as sc
 use Rattle.c_parse.proofs.Sets.{code, is_in}
 use Rattle.c_parse.proofs.ClassTests.{in_mark, in_key, BASES, NAMES}

@@ -2,8 +2,7 @@
 use Rattle.std.proofs.Common.{◌≡◌, ℕ, List, [], ◌∷◌, ◌++◌, map, refl, ap, ◌∙◌}
 use Rattle.std.proofs.lemmas.List.{map-append}
 use Rattle.c_parse.specs.declared.symbols.Symbol.{Symbol}
-use Rattle.c_parse.specs.Symbols.{Sym, sym_of}
-use Rattle.c_parse.specs.Sources.{last_line}
+use Rattle.c_parse.specs.Symbols.{Sym, sym_of, last_line}
 
 pub behind_all : (ss : List Sym) (s : Sym) → last_line (ss ++ s ∷ []) ≡ s.at.line
 behind_all [] s = refl

@@ -14,10 +14,9 @@ use Rattle.c_parse.specs.declared.symbols.Class.{Class}
 use Rattle.c_parse.specs.declared.symbols.Class.TheVariants as class
 use Rattle.c_parse.specs.declared.refusals.ParseRefusal.{ParseRefusal}
 use Rattle.c_parse.specs.declared.refusals.ParseRefusal.TheVariants as refusal
-use Rattle.c_parse.specs.Symbols.{Sym, Symbols, Shows, none, shown, foreign, bytes_of, named_in, symbol_at, class_of, as_name, as_number, as_text, as_key, as_sign, as_scope, as_single, as_barrier, as_refused}
+use Rattle.c_parse.specs.Symbols.{Sym, Symbols, Shows, none, shown, foreign, bytes_of, named_in, symbol_at, class_of, as_name, as_number, as_text, as_key, as_sign, as_scope, as_single, as_barrier, as_refused, last_line}
 use Rattle.c_parse.specs.Reading.{Read, Got, Fails, and_then, pure}
 use Rattle.c_parse.specs.Sources as so
-use Rattle.c_parse.specs.Sources.{last_line}
 use Rattle.c_parse.specs.SourceGrammar as sc
 use Rattle.c_parse.specs.Parsed.{Spelt, Viable, NoneRefused, RefusedAt, at_symbol, at_end, at_pragma}
 use Rattle.c_parse.proofs.Exact.{left, clean_append}

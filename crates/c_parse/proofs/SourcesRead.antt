@@ -5,7 +5,7 @@ use Rattle.c_tree.specs.Syntax as x
 use Rattle.c_parse.specs.Symbols.{Sym}
 use Rattle.c_parse.specs.Reading.{Read, Got, Fails, Reader, repeat_from, repeat}
 use Rattle.c_parse.specs.Sources as so
-use Rattle.c_parse.specs.Sources.{is_over, last_line}
+use Rattle.c_parse.specs.Sources.{is_over}
 use Rattle.c_parse.specs.SourceGrammar as sc
 use Rattle.c_parse.specs.Parsed.{Viable, NoneRefused, EndsAt}
 use Rattle.c_parse.proofs.Sets.{code, is_in}

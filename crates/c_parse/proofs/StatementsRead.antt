@@ -11,16 +11,15 @@ use Rattle.c_parse.specs.declared.symbols.Mark.TheVariants as mark
 use Rattle.c_parse.specs.declared.grammar.Part.TheVariants as part
 use Rattle.c_parse.specs.Symbols.{Sym}
 use Rattle.c_parse.specs.Signs.{is_mark, is_key, same_mark, same_key}
-use Rattle.c_parse.specs.Phrases.{Phrase, nothing, give, one, ◌or◌, placed}
+use Rattle.c_parse.specs.Phrases.{Phrase, nothing, give, ◌or◌, placed}
 use Rattle.c_parse.specs.Phrases as ph
-use Rattle.c_parse.specs.Reading.{Read, Got, Fails, Reader, and_then, ◌>>=◌, pure, refuse, class_at, behind, sees, sees_key, behind_if, eat, eat_key, expect, expect_key, here}
+use Rattle.c_parse.specs.Reading.{Read, Got, Fails, Reader, and_then, ◌>>=◌, pure, refuse, class_at, behind, sees, sees_key, eat_key, expect, expect_key, here}
 use Rattle.c_parse.specs.Reading as rd
 use Rattle.c_parse.specs.Expressions as ex
 use Rattle.c_parse.specs.Declarations as dc
 use Rattle.c_parse.specs.Statements as st
-use Rattle.c_parse.specs.Statements.{items_of, block_of}
+use Rattle.c_parse.specs.StatementGrammar.{items_of, block_of, is_open, single_as, single_by, is_barrier}
 use Rattle.c_parse.specs.Grammar.{one_if, mark_}
-use Rattle.c_parse.specs.StatementGrammar.{is_open, single_as, single_by, is_barrier}
 use Rattle.c_parse.specs.StatementGrammar as sg
 use Rattle.c_parse.proofs.Sets.{code, mark_code, is_in, apart, within, apart_no}
 use Rattle.c_parse.proofs.ClassTests.{in_mark, in_key, BASES}
@@ -245,12 +244,8 @@ module _ (sp : Phrase x.Stmt) (sr : Reader x.Stmt) (es : Exact sp sr STMT else_a
   unfolding sg.do_ st.do_from
   do_exact at = when_exact deep (token_then (key_exact key.Do) (λ _. seq any_else (λ body. token_then (key_exact key.While) (λ _. seq condition_exact (λ test. token_then (mark_exact mark.Semicolon) (λ _. give_exact (x.DoWhile at body test))) refl)) refl))
 
-  evaluated_is : (value : Option x.Expr) → st.evaluated r_ value ≡ sg.evaluated value
-  evaluated_is None = refl
-  evaluated_is (Some value) = refl
-
   head_rest_is : (ts : List Sym) → st.for_head_by r_ false ts ≡ (ended depth mark.Semicolon >>= (λ value. pure (sg.evaluated value))) ts
-  head_rest_is ts = ended_is (st.optional depth mark.Semicolon ts) mark.Semicolon (λ value. pure (st.evaluated r_ value)) ∙ then_same (ended depth mark.Semicolon ts) (λ value rest. ap (λ h. Got h rest) (evaluated_is value))
+  head_rest_is ts = ended_is (st.optional depth mark.Semicolon ts) mark.Semicolon (λ value. pure (sg.evaluated value))
 
   head_exact : Exact (sg.for_head p_) (st.for_head r_) (14 ∷ BASES ++ 36 ∷ EXPR) (λ _. []) true
   unfolding sg.for_head st.for_head

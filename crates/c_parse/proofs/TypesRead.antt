@@ -6,12 +6,12 @@ use Rattle.c_parse.specs.declared.symbols.Key.TheVariants as key
 use Rattle.c_parse.specs.declared.symbols.Mark.TheVariants as mark
 use Rattle.c_parse.specs.Symbols.{Sym}
 use Rattle.c_parse.specs.Signs.{base_of, is_star, is_number}
-use Rattle.c_parse.specs.Phrases.{Phrase, give, one, ◌or◌, repeat}
+use Rattle.c_parse.specs.Phrases.{Phrase, ◌or◌, repeat}
 use Rattle.c_parse.specs.Phrases as ph
-use Rattle.c_parse.specs.Reading.{Read, Got, Fails, Reader, and_then, ◌>>=◌, pure, refuse, class_at, behind, sees, behind_if, eat, eat_key, expect, repeat_from, no_comma}
+use Rattle.c_parse.specs.Reading.{Got, Fails, Reader, and_then, ◌>>=◌, pure, class_at, behind, sees, behind_if, eat_key, expect, no_comma}
 use Rattle.c_parse.specs.Reading as rd
 use Rattle.c_parse.specs.Expressions as ex
-use Rattle.c_parse.specs.Grammar.{one_if, one_as, mark_, key_, name_, flag, flag_if, when, long_int}
+use Rattle.c_parse.specs.Grammar.{one_if, flag_if, long_int}
 use Rattle.c_parse.specs.Grammar as gr
 use Rattle.c_parse.proofs.Sets.{code, is_in, apart, within, in_either, left_no}
 use Rattle.c_parse.proofs.ClassTests.{in_mark, in_bases, BASES, in_stars, STARS}

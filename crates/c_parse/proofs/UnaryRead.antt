@@ -11,13 +11,12 @@ use Rattle.c_parse.specs.declared.grammar.Part.{Part}
 use Rattle.c_parse.specs.declared.grammar.Part.TheVariants as part
 use Rattle.c_parse.specs.Symbols.{Sym}
 use Rattle.c_parse.specs.Signs.{begins_base, is_mark, prefix_of, prefixed, same_mark, same_key}
-use Rattle.c_parse.specs.Phrases.{Phrase, nothing, give, one, ◌or◌, placed}
+use Rattle.c_parse.specs.Phrases.{Phrase, nothing, give, ◌or◌}
 use Rattle.c_parse.specs.Phrases as ph
-use Rattle.c_parse.specs.Reading.{Read, Got, Fails, Reader, and_then, ◌>>=◌, pure, refuse, class_at, bytes_at, behind, sees, behind_if, eat, expect, expect_key, name, here}
+use Rattle.c_parse.specs.Reading.{Reader, ◌>>=◌, pure, refuse, class_at, sees, expect, expect_key, name}
 use Rattle.c_parse.specs.Reading as rd
 use Rattle.c_parse.specs.Expressions as ex
-use Rattle.c_parse.specs.Expressions.{arguments_of}
-use Rattle.c_parse.specs.Grammar.{one_if, one_as, mark_, key_, name_, when, number_as, is_text, change_as}
+use Rattle.c_parse.specs.Grammar.{arguments_of, one_if, one_as, mark_, name_, when, number_as, is_text, change_as}
 use Rattle.c_parse.specs.Grammar as gr
 use Rattle.c_parse.proofs.Sets.{code, is_in}
 use Rattle.c_parse.proofs.ClassTests.{in_mark, in_bases, BASES, in_prefixes, PREFIXES, NAMES, in_numbers, NUMBERS, in_texts, TEXTS, in_changes, CHANGES, tighter_codes}

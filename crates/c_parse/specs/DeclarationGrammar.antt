@@ -6,21 +6,14 @@ use Rattle.c_tree.specs.declared.syntax.Param.{Param}
 use Rattle.c_tree.specs.declared.syntax.ParamType.{ParamType}
 use Rattle.c_tree.specs.declared.syntax.ParamType.TheVariants.{Plain, Array, Arguments}
 use Rattle.c_tree.specs.Syntax as x
-use Rattle.c_parse.specs.declared.symbols.Class.{Class}
-use Rattle.c_parse.specs.declared.symbols.Class.TheVariants as class
 use Rattle.c_parse.specs.declared.symbols.Key.TheVariants as key
 use Rattle.c_parse.specs.declared.symbols.Mark.TheVariants as mark
 use Rattle.c_parse.specs.declared.grammar.Part.TheVariants as part
-use Rattle.c_parse.specs.Signs.{is_star}
+use Rattle.c_parse.specs.Signs.{is_star, is_equals}
 use Rattle.c_parse.specs.Phrases.{Phrase, give, ◌>>=◌, ◌>>◌, ◌or◌, placed}
 use Rattle.c_parse.specs.Grammar.{one_if, mark_, key_, name_, flag, separated, type_base, star, expression}
 
 -- ---- declarators
-
--- "=" alone
-abbrev pub is_equals : Class → Bool
-is_equals (class.Assign None) = true
-is_equals c = false
 
 -- the symbol =
 abbrev pub equals_ : Phrase (Unit {0})

@@ -3,17 +3,16 @@ use Rattle.std.specs.Prelude.{ℕ, Bool, true, false, if◌then◌else◌, List,
 use Rattle.c_tree.specs.declared.syntax.Place.{Place}
 use Rattle.c_tree.specs.declared.syntax.Base.{Base}
 use Rattle.c_tree.specs.declared.syntax.Param.{Param}
-use Rattle.c_tree.specs.declared.syntax.ParamType.{ParamType}
-use Rattle.c_tree.specs.declared.syntax.ParamType.TheVariants.{Plain, Array, Arguments}
+use Rattle.c_tree.specs.declared.syntax.ParamType.TheVariants.{Arguments}
 use Rattle.c_tree.specs.Syntax as x
 use Rattle.c_parse.specs.declared.symbols.Class.{Class}
-use Rattle.c_parse.specs.declared.symbols.Class.TheVariants as class
 use Rattle.c_parse.specs.declared.symbols.Key.TheVariants as key
 use Rattle.c_parse.specs.declared.symbols.Mark.TheVariants as mark
 use Rattle.c_parse.specs.declared.grammar.Part.TheVariants as part
-use Rattle.c_parse.specs.Signs.{begins_base, is_key, is_star}
+use Rattle.c_parse.specs.Signs.{begins_base, is_key, is_star, is_equals}
 use Rattle.c_parse.specs.Symbols.{Sym}
 use Rattle.c_parse.specs.Reading.{Got, Fails, Reader, ◌>>=◌, ◌>>◌, pure, here, class_at, behind, sees, behind_if, eat, eat_key, expect, name, no_comma, one_more, repeat, separated}
+use Rattle.c_parse.specs.DeclarationGrammar.{param_type}
 use Rattle.c_parse.specs.Expressions.{type_base, star, expression}
 
 -- ---- declarators, with so many marked productions that may stand in one another
@@ -48,10 +47,6 @@ value d = do
   if lists then values d else (do found ← expression d part.Assign; pure (x.Value found))
 
 -- whether = comes next
-abbrev pub is_equals : Class → Bool
-is_equals (class.Assign None) = true
-is_equals c = false
-
 unfoldable pub sees_equals : List Sym → Bool
 sees_equals ts = is_equals (class_at ts)
 
@@ -103,21 +98,17 @@ unfoldable pub expect_star : Reader (Unit {0})
 expect_star = λ ts. if sees_any_star ts then Got tt (behind ts) else Fails ts
 
 -- [ and ], if they come next
-unfoldable pub is_array : Bool → Reader Bool
-is_array pointer = do
+unfoldable pub eat_brackets : Bool → Reader Bool
+eat_brackets pointer = do
   has ← (λ ts. Got (begins_length pointer ts) (behind_if (begins_length pointer ts) ts))
   if has then expect mark.CloseSquare >> pure true else pure false
-
-abbrev pub param_type : Base → Bool → Bool → ParamType
-param_type base pointer true = Array base
-param_type base pointer false = Plain (record { base = base; pointer = pointer })
 
 unfoldable pub typed_param : Place → Reader Param
 typed_param at = do
   base ← type_base
   pointer ← star base
   called ← name
-  array ← is_array pointer
+  array ← eat_brackets pointer
   pure (record { at = at; param_type = param_type base pointer array; name = called })
 
 -- behind the char

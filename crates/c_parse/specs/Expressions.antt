@@ -50,11 +50,6 @@ pub record Nest : Type 0 where
   pub deep : Bool
   pub below : Part → Reader x.Expr
 
--- the arguments of a call, by their list
-abbrev pub arguments_of : List x.Expr → x.Exprs
-arguments_of [] = x.End
-arguments_of (first ∷ more) = x.More first (arguments_of more)
-
 module _ (nest : Nest) where
   -- ---- primary and postfix expressions
 

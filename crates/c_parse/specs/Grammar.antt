@@ -17,7 +17,6 @@ use Rattle.c_parse.specs.declared.grammar.Part.TheVariants as part
 use Rattle.c_parse.specs.Symbols.{Sym}
 use Rattle.c_parse.specs.Phrases.{Phrase, nothing, give, one, ◌>>=◌, ◌>>◌, ◌or◌, repeat, placed, at_most}
 use Rattle.c_parse.specs.Signs.{is_mark, is_key, is_name, binary_of, prefix_of, prefixed, assigns, base_of, is_number, is_star}
-use Rattle.c_parse.specs.Expressions.{arguments_of}
 
 -- ---- symbols
 
@@ -101,6 +100,11 @@ is_text c = false
 abbrev pub change_as : Class → Option Change
 change_as (class.Change change) = Some change
 change_as c = None
+
+-- the arguments of a call, by their list
+abbrev pub arguments_of : List x.Expr → x.Exprs
+arguments_of [] = x.End
+arguments_of (first ∷ more) = x.More first (arguments_of more)
 
 -- what may stand one deeper, if anything may
 pub record Nest : Type 1 where
@@ -226,7 +230,7 @@ module _ (nest : Nest) where
   production part.Cond = placed cond
   production part.Unary = unary
 
--- what stands in a production behind which so many may be opened: each marked production is one deeper
+-- the inner parts of a production in which so many marked productions may still stand in one another: each is one deeper, and at 0 there is none
 unfoldable pub nest : ℕ → Nest
 nest zero = record { deep = false; below = λ _. nothing }
 nest (suc d) = record { deep = true; below = production (nest d) }

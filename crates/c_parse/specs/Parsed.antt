@@ -6,8 +6,7 @@ use Rattle.c_tree.specs.Syntax as x
 use Rattle.c_parse.specs.declared.symbols.Class.TheVariants as class
 use Rattle.c_parse.specs.declared.refusals.ParseRefusal.{ParseRefusal}
 use Rattle.c_parse.specs.declared.refusals.ParseRefusal.TheVariants.{Syntax, Pragma}
-use Rattle.c_parse.specs.Symbols.{Sym, Symbols}
-use Rattle.c_parse.specs.Sources.{last_line}
+use Rattle.c_parse.specs.Symbols.{Sym, Symbols, last_line}
 use Rattle.c_parse.specs.SourceGrammar.{unit}
 
 -- the tokens spell the tree
@@ -33,7 +32,7 @@ pub record EndsAt (symbols before : List Sym) (s : Sym) : Type 0 where
   pub viable : (front more : List Sym) → before ≡ front ++ more → Viable front
   pub over : Viable (before ++ s ∷ []) → ⊥
 
--- where the tokens are refused: at the first one that makes them no longer viable; just behind the last byte, where there is none and yet no tree is spelt; and by its line at the first refused pragma, where that stands at or before the place
+-- where the tokens are refused: at the first one that makes them no longer viable; just behind the last byte, where there is none and yet no tree is spelt; and by its line at the first refused pragma, where that is the first one that makes them no longer viable: no front holds it
 pub data RefusedAt (src : List ℕ) (ts : List Token) : ParseRefusal → Type 0 where
   at_symbol : (symbols before : List Sym) (s : Sym) → Symbols src ts symbols → EndsAt symbols before s → NoneRefused (before ++ s ∷ []) → RefusedAt src ts (Syntax s.at.line s.at.col)
   at_end : (symbols : List Sym) → Symbols src ts symbols → ((front more : List Sym) → symbols ≡ front ++ more → Viable front) → ((items : List x.Item) → unit.spells symbols items → ⊥) → RefusedAt src ts (Syntax (behind start src).line (behind start src).col)

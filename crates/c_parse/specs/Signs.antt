@@ -88,6 +88,11 @@ abbrev pub assigns : Class → Option (Option Binary)
 assigns (class.Assign sign) = Some sign
 assigns c = None
 
+-- = alone
+abbrev pub is_equals : Class → Bool
+is_equals (class.Assign None) = true
+is_equals c = false
+
 -- ---- types
 
 -- the base that a key begins

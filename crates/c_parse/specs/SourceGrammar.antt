@@ -14,7 +14,10 @@ use Rattle.c_parse.specs.Phrases.{Phrase, give, one, ◌>>=◌, ◌>>◌, ◌or�
 use Rattle.c_parse.specs.Grammar.{mark_, key_, name_, flag, type_name}
 use Rattle.c_parse.specs.DeclarationGrammar.{declaration_at, params}
 use Rattle.c_parse.specs.StatementGrammar.{body, inside}
-use Rattle.c_parse.specs.Sources.{most_deep}
+
+-- how many marked productions may stand in one another
+abbrev pub most_deep : ℕ
+most_deep = 128
 
 -- ";" | block
 unfoldable pub definition : Phrase (Option x.Body)

@@ -9,15 +9,12 @@ use Rattle.c_parse.specs.declared.symbols.Class.{Class}
 use Rattle.c_parse.specs.declared.symbols.Class.TheVariants as class
 use Rattle.c_parse.specs.declared.symbols.Key.TheVariants as key
 use Rattle.c_parse.specs.declared.symbols.Mark.TheVariants as mark
-use Rattle.c_parse.specs.Symbols.{Sym}
+use Rattle.c_parse.specs.Symbols.{Sym, last_line}
+use Rattle.c_parse.specs.SourceGrammar.{most_deep}
 use Rattle.c_parse.specs.Reading.{Reader, ◌>>=◌, ◌>>◌, pure, next, here, names, sees, eat, eat_key, expect, name, repeat}
 use Rattle.c_parse.specs.Expressions.{type_base, star}
 use Rattle.c_parse.specs.Declarations.{declared, declaration_from, params}
 use Rattle.c_parse.specs.Statements.{body, inside}
-
--- how many marked productions may stand in one another
-abbrev pub most_deep : ℕ
-most_deep = 128
 
 -- behind the parameters
 unfoldable pub definition : Reader (Option x.Body)
@@ -74,12 +71,6 @@ abbrev pub one_more_item : List x.Item → Reader (List x.Item)
 one_more_item found = do
   i ← item
   pure (found ++ i ∷ [])
-
--- the line of the last symbol
-abbrev pub last_line : List Sym → ℕ
-last_line [] = 1
-last_line (s ∷ []) = s.at.line
-last_line (s ∷ t ∷ ts) = last_line (t ∷ ts)
 
 abbrev pub items : Reader (List x.Item)
 items = repeat is_over one_more_item []

@@ -13,7 +13,14 @@ use Rattle.c_parse.specs.Signs.{is_mark}
 use Rattle.c_parse.specs.Phrases.{Phrase, nothing, give, one, ◌>>=◌, ◌>>◌, ◌or◌, repeat, placed}
 use Rattle.c_parse.specs.Grammar.{one_if, mark_, key_, when, expression}
 use Rattle.c_parse.specs.DeclarationGrammar.{declaration}
-use Rattle.c_parse.specs.Statements.{items_of, block_of}
+
+-- the items of a block, by their list
+abbrev pub items_of : List x.Stmt → x.Stmts
+items_of [] = x.Done
+items_of (first ∷ more) = x.Then first (items_of more)
+
+abbrev pub block_of : x.Body → x.Stmt
+block_of b = x.Block b.at b.items b.end_line
 
 -- what may stand one deeper, if anything may
 pub record Inside : Type 1 where
@@ -146,7 +153,7 @@ module _ (inside : Inside) where
         or (do key_ key.Continue; mark_ mark.Semicolon; give (x.Continue at))
         or (do value ← expression d part.Assign; mark_ mark.Semicolon; give (x.Eval at value))
 
--- what stands in a production behind which so many may be opened
+-- the inner parts of a statement in which so many marked productions may still stand in one another
 unfoldable pub inside : ℕ → Inside
 inside zero = record { deep = false; depth = 0; stmt = nothing }
 inside (suc d) = record { deep = true; depth = d; stmt = placed (statement_at (inside d) d) }

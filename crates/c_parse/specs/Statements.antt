@@ -9,6 +9,7 @@ use Rattle.c_parse.specs.declared.symbols.Mark.{Mark}
 use Rattle.c_parse.specs.declared.symbols.Mark.TheVariants as mark
 use Rattle.c_parse.specs.declared.grammar.Part.TheVariants as part
 use Rattle.c_parse.specs.Reading.{Got, Reader, ◌>>=◌, ◌>>◌, pure, refuse, next, here, advance, names, sees, eat_key, expect, expect_key, repeat}
+use Rattle.c_parse.specs.StatementGrammar.{items_of, block_of, evaluated}
 use Rattle.c_parse.specs.Expressions.{expression}
 use Rattle.c_parse.specs.Declarations.{declaration, begins_declaration}
 
@@ -17,14 +18,6 @@ pub record Inside : Type 0 where
   pub deep : Bool
   pub depth : ℕ
   pub stmt : Reader x.Stmt
-
--- the items of a block, by their list
-abbrev pub items_of : List x.Stmt → x.Stmts
-items_of [] = x.Done
-items_of (first ∷ more) = x.Then first (items_of more)
-
-abbrev pub block_of : x.Body → x.Stmt
-block_of b = x.Block b.at b.items b.end_line
 
 -- an expression, if what would end it doesn't come next
 unfoldable pub optional : ℕ → Mark → Reader (Option x.Expr)
@@ -95,10 +88,6 @@ module _ (inside : Inside) where
     test ← condition
     expect mark.Semicolon
     pure (x.DoWhile at body test)
-
-  abbrev pub evaluated : Option x.Expr → x.ForHead
-  evaluated None = x.Bare
-  evaluated (Some value) = x.Evaluated value
 
   abbrev pub for_head_by : Bool → Reader x.ForHead
   for_head_by true = do

@@ -146,3 +146,9 @@ pub data Symbols (src : List ℕ) : List Token → List Sym → Type 0 where
   none : Symbols src [] []
   shown : (t : Token) (ts : List Token) (c : Class) (names : List (List ℕ)) (ss : List Sym) → Shows src t c names → Symbols src ts ss → Symbols src (t ∷ ts) (symbol_at src t c names ∷ ss)
   foreign : (t : Token) (ts : List Token) (ss : List Sym) → t.kind ≡ kind.Pragma → Reads (bytes_of src t) pragma.Foreign → Symbols src ts ss → Symbols src (t ∷ ts) ss
+
+-- the line of the last symbol; 1 where there is none
+abbrev pub last_line : List Sym → ℕ
+last_line [] = 1
+last_line (s ∷ []) = s.at.line
+last_line (s ∷ t ∷ ts) = last_line (t ∷ ts)

@@ -11,7 +11,7 @@ use crate::nodes;
 use crate::signs::{assigns, binary_of};
 use crate::stops::Stop;
 use crate::symbols::Mark;
-use c_tree::syntax::{Binary, Expr, Place};
+use c_tree::syntax::{Expr, Place};
 use std::alloc::Global;
 
 // How many levels of signs between operands there are.

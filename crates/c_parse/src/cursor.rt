@@ -2,8 +2,8 @@
 ghost use Rattle.std.specs.Prelude.{◌≡◌, ℕ, List, length, take, drop, map, IfOk, OnOk};
 ghost use Rattle.c_parse.specs.Reading as spec;
 ghost use Rattle.c_parse.specs.Reading.{Reads, itself};
-ghost use Rattle.c_parse.specs.Sources.{is_over, last_line};
-ghost use Rattle.c_parse.specs.Symbols.{sym_of};
+ghost use Rattle.c_parse.specs.Sources.{is_over};
+ghost use Rattle.c_parse.specs.Symbols.{last_line, sym_of};
 
 use crate::signs::{is_key, is_mark, is_name};
 use crate::stops::Stop;
@@ -11,7 +11,7 @@ use crate::symbols::{Class, Key, Mark, Symbol};
 use crate::tokens::part;
 use c_tree::syntax::Place;
 use c_tree::{Identifier, Identifiers};
-use mpc_base::{Memory, Text};
+use mpc_base::Memory;
 use std::alloc::Global;
 use std::marker::Model;
 

@@ -3,8 +3,8 @@ ghost use Rattle.std.specs.Prelude.{◌≡◌, IfOk, map};
 ghost use Rattle.c_tree.specs.Syntax as x;
 ghost use Rattle.c_tree.specs.SyntaxOf.{body_of, expr_of, head_of, maybe_of, stmt_of};
 ghost use Rattle.c_parse.specs.Signs.{prefixed as prefixed_of};
-ghost use Rattle.c_parse.specs.Expressions.{arguments_of};
-ghost use Rattle.c_parse.specs.Statements.{block_of, items_of};
+ghost use Rattle.c_parse.specs.Grammar.{arguments_of};
+ghost use Rattle.c_parse.specs.StatementGrammar.{block_of, items_of};
 
 use crate::signs::Prefix;
 use c_tree::syntax::{Binary, Body, Change, Expr, ForHead, Place, Stmt, TypeName};

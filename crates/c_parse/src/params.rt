@@ -1,5 +1,6 @@
 //! Parameters of functions (C99, section 6.7.5.3).
 ghost use Rattle.std.specs.Prelude.{◌≡◌};
+ghost use Rattle.c_parse.specs.DeclarationGrammar as grammar;
 ghost use Rattle.c_parse.specs.Declarations as spec;
 ghost use Rattle.c_parse.specs.Reading.{Reads, itself, one_more, separated};
 
@@ -32,20 +33,20 @@ fn expect_star(cursor: &mut Cursor<'_>) -> Result<(), Stop>
 }
 
 // Goes behind `[` and `]`, if they come next, and tells so.
-#[tactic(auto, unfolding(crate::specs::Declarations::is_array))]
-fn is_array(cursor: &mut Cursor<'_>, pointer: bool) -> Result<bool, Stop>
-    ensures { Reads itself (spec.is_array pointer cursor.old) result cursor.new }
+#[tactic(auto, unfolding(crate::specs::Declarations::eat_brackets))]
+fn eat_brackets(cursor: &mut Cursor<'_>, pointer: bool) -> Result<bool, Stop>
+    ensures { Reads itself (spec.eat_brackets pointer cursor.old) result cursor.new }
 {
-    let has_len = begins_length(cursor, pointer);
-    cursor.advance_if(has_len);
-    if has_len {
+    let array = begins_length(cursor, pointer);
+    cursor.advance_if(array);
+    if array {
         cursor.expect(Mark::CloseSquare)?;
     }
-    Ok(has_len)
+    Ok(array)
 }
 
 fn param_type(base: Base, pointer: bool, array: bool) -> ParamType
-    ensures { result ≡ spec.param_type base pointer array }
+    ensures { result ≡ grammar.param_type base pointer array }
 {
     if array {
         ParamType::Array(base)
@@ -61,7 +62,7 @@ fn typed_param(alloc: Global, cursor: &mut Cursor<'_>, at: Place) -> Result<Para
     let base = type_base(cursor)?;
     let pointer = star(cursor, base);
     let name = cursor.name(alloc)?;
-    let array = is_array(cursor, pointer)?;
+    let array = eat_brackets(cursor, pointer)?;
     Ok(Param {
         at,
         param_type: param_type(base, pointer, array),

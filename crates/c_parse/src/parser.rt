@@ -55,9 +55,9 @@ fn refusal(src: &[u8], cursor: &Cursor<'_>) -> ParseRefusal
 
 /// The tree of a source of at most 1,048,576 bytes, from its tokens (C99, sections 6.5 to 6.9):
 /// there is one exactly where the tokens spell it. Else the refusal names the first token with which
-/// no tree can be meant any more, or that is the 1,025th of its expression, or the end of the source
-/// where there is none; and a refused pragma that stands there by its line. An outer error stands
-/// for want of memory.
+/// the tokens are no front of a source any more, or that is the 1,025th of its expression, or the end
+/// of the source where there is none; and a refused pragma that stands there by its line. An outer
+/// error stands for want of memory.
 pub fn parse(
     alloc: Global,
     src: &[u8],

@@ -4,7 +4,7 @@
 /// 1, columns in bytes.
 #[derive(Clone, Copy, Debug, PartialEq, Eq, thiserror::Error)]
 pub enum ParseRefusal {
-    /// The first token with which no tree can go on, or just behind the last byte.
+    /// The first token with which the tokens are no front of a source, or just behind the last byte.
     #[error("line {line}, column {col}: no tree goes on here")]
     Syntax { line: u32, col: u32 },
     /// The first pragma that begins as a directive for shared variables, and is none.

@@ -1,7 +1,6 @@
-//! What a sign means before an operand and between operands.
+//! What a symbol means by its class: signs before and between operands, marks, keys, names and bases.
 ghost use Rattle.std.specs.Prelude.{◌≡◌};
 ghost use Rattle.c_parse.specs.Signs as spec;
-ghost use Rattle.c_parse.specs.Declarations as spec_declarations;
 
 use crate::symbols::{Class, Key, Mark};
 use c_tree::syntax::{Base, Binary, Change, Unary};
@@ -148,7 +147,7 @@ pub fn is_name(class: Class) -> bool
 
 /// Whether it is `=`.
 pub fn is_equals(class: Class) -> bool
-    ensures { result ≡ spec_declarations.is_equals class }
+    ensures { result ≡ spec.is_equals class }
 {
     matches!(class, Class::Assign(None))
 }

@@ -4,6 +4,7 @@ ghost use Rattle.c_tree.specs.SyntaxOf.{expr_of, head_of, maybe_of, stmt_of};
 ghost use Rattle.c_parse.specs.Insides.{Insides};
 ghost use Rattle.c_parse.specs.Reading.{Reads, advance, itself, refuse};
 ghost use Rattle.c_parse.specs.declared.symbols.Class.TheVariants as class;
+ghost use Rattle.c_parse.specs.StatementGrammar as grammar;
 ghost use Rattle.c_parse.specs.Statements as spec;
 
 use crate::bodies::Statements;
@@ -32,6 +33,16 @@ fn optional(
     }
     let value = expression(alloc, cursor, depth, Part::Assign)?;
     Ok(Some(value))
+}
+
+// What a `for` begins with, where it declares nothing.
+fn evaluated(value: Option<Expr>) -> ForHead
+    ensures { head_of result ≡ grammar.evaluated (maybe_of value) }
+{
+    match value {
+        None => ForHead::Nothing,
+        Some(value) => ForHead::Evaluated(value),
+    }
 }
 
 impl<F: Fn(Global, &mut Cursor<'_>, usize) -> Result<Stmt, Stop>> Statements<F> {
@@ -85,15 +96,6 @@ impl<F: Fn(Global, &mut Cursor<'_>, usize) -> Result<Stmt, Stop>> Statements<F> 
         Ok(nodes::do_while(self.alloc, at, body, test)?)
     }
 
-    fn evaluated(&self, value: Option<Expr>) -> ForHead
-        ensures { head_of result ≡ spec.evaluated (spec.inside self.now.depth) (maybe_of value) }
-    {
-        match value {
-            None => ForHead::Nothing,
-            Some(value) => ForHead::Evaluated(value),
-        }
-    }
-
     // What a `for` begins with, and the `;` behind it.
     #[tactic(auto, unfolding(crate::specs::Statements::for_head))]
     fn for_head(&self, cursor: &mut Cursor<'_>) -> Result<ForHead, Stop>
@@ -105,7 +107,7 @@ impl<F: Fn(Global, &mut Cursor<'_>, usize) -> Result<Stmt, Stop>> Statements<F> 
         }
         let value = optional(self.alloc, cursor, self.inner(), Mark::Semicolon)?;
         cursor.expect(Mark::Semicolon)?;
-        Ok(self.evaluated(value))
+        Ok(evaluated(value))
     }
 
     // Behind the head.

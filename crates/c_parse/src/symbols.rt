@@ -65,7 +65,7 @@ pub enum Class {
     Barrier,
     /// A line that begins as a directive for shared variables, and is none.
     Refused,
-    /// A key that stands in no production.
+    /// A key that stands in no production; also what stands behind the last symbol.
     Other,
 }
 

@@ -1,5 +1,5 @@
 //! The symbols of the tokens of a source.
-ghost use Rattle.std.specs.Prelude.{◌≡◌, [], IfOk, MatchOption, length, take, drop, map};
+ghost use Rattle.std.specs.Prelude.{◌≡◌, [], IfOk, length, take, drop, map};
 ghost use Rattle.c_parse.specs.Symbols as spec;
 ghost use Rattle.c_parse.specs.Symbols.{Symbols, sym_of};
 ghost use Rattle.c_parse.specs.Spellings.{Sees, made, spelling_of};

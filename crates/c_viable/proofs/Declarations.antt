@@ -1,23 +1,20 @@
 -- The rows of declarations and parameters.
-use Rattle.std.proofs.Common.{◌≡◌, ℕ, Bool, true, false, List, [], ◌∷◌, ◌++◌, Option, Some, None, refl, sym, subst}
+use Rattle.std.proofs.Common.{◌≡◌, ℕ, Bool, true, false, List, [], ◌∷◌, ◌++◌, Some, None, refl, sym, subst}
 use Rattle.c_tree.specs.declared.syntax.Place.{Place}
 use Rattle.c_tree.specs.declared.syntax.Base.{Base}
 use Rattle.c_tree.specs.declared.syntax.Param.{Param}
 use Rattle.c_tree.specs.declared.syntax.ParamType.TheVariants.{Arguments}
 use Rattle.c_tree.specs.Syntax as x
-use Rattle.c_parse.specs.declared.symbols.Key.TheVariants as key
-use Rattle.c_parse.specs.declared.symbols.Mark.TheVariants as mark
 use Rattle.c_parse.specs.declared.grammar.Part.TheVariants as part
 use Rattle.c_parse.specs.Signs.{is_number}
-use Rattle.c_parse.specs.Phrases.{Phrase, give, ◌or◌, placed}
+use Rattle.c_parse.specs.Phrases.{Phrase, give, ◌or◌}
 use Rattle.c_parse.specs.Phrases as ph
 use Rattle.c_parse.specs.Grammar.{name_, expression}
 use Rattle.c_parse.specs.DeclarationGrammar as gr
-use Rattle.c_viable.specs.declared.forms.Form.TheVariants as form
 use Rattle.c_viable.specs.declared.rows.TheConstants as rows
 use Rattle.c_viable.proofs.Sequences.{mapped, given}
 use Rattle.c_viable.proofs.Alternatives.{placed_shows}
-use Rattle.c_viable.proofs.RowLaws.{Level, Row, row, sequence, either, empty}
+use Rattle.c_viable.proofs.RowLaws.{Level, Row, sequence, either, empty}
 use Rattle.c_viable.proofs.Types.{one_if_row, mark_row, key_row, name_row, star_row, flag_row, separated_row, by_base, starred, unstarred}
 
 module _ (r : Level) (d : ℕ) (value_short : Row r rows.EXPRESSION (expression d part.Assign)) (length_short : Row r rows.LENGTH (expression d part.Cond)) where

@@ -1,21 +1,18 @@
 -- What the tables of a level show, from those of the level below.
-use Rattle.std.proofs.Common.{◌≡◌, ℕ, zero, suc, ◌+◌, ◌-◌, ◌<◌, Bool, true, false, List, [], map, refl, sym, ap, ◌∙◌, subst, arith}
+use Rattle.std.proofs.Common.{◌≡◌, ℕ, zero, suc, ◌+◌, ◌-◌, ◌<◌, true, false, List, [], map, refl, sym, ap, ◌∙◌, subst, arith}
 use Rattle.std.proofs.lemmas.Bool.{false≢true}
-use Rattle.c_tree.specs.declared.syntax.Place.{Place}
 use Rattle.c_parse.specs.declared.grammar.Part.TheVariants as part
 use Rattle.c_parse.specs.declared.symbols.Class.{Class}
 use Rattle.c_parse.specs.Symbols.{Sym}
-use Rattle.c_parse.specs.Phrases.{Phrase, placed}
-use Rattle.c_parse.specs.Grammar.{Nest, production, nest, expr, expression}
-use Rattle.c_parse.specs.DeclarationGrammar.{declaration, declaration_at}
-use Rattle.c_parse.specs.StatementGrammar.{Inside, statement_at, body, inside}
-use Rattle.c_parse.specs.SourceGrammar.{unit}
-use Rattle.c_parse.specs.Sources.{most_deep}
+use Rattle.c_parse.specs.Grammar.{nest, expr, expression}
+use Rattle.c_parse.specs.DeclarationGrammar.{declaration_at}
+use Rattle.c_parse.specs.StatementGrammar.{body, inside}
+use Rattle.c_parse.specs.SourceGrammar.{unit, most_deep}
 use Rattle.c_viable.specs.declared.rows.TheConstants as rows
 use Rattle.c_viable.specs.declared.productions.TheConstants.{LEVEL}
 use Rattle.c_viable.specs.Cells.{Flags}
 use Rattle.c_viable.specs.Forms.{Evaluated}
-use Rattle.c_viable.specs.Known.{Known, table_of}
+use Rattle.c_viable.specs.Known.{Known}
 use Rattle.c_viable.proofs.RowLaws.{Level, Row, short, under, under_if, nothing_under}
 use Rattle.c_viable.proofs.Expressions.{assign_row, cond_part_row, unary_part_row}
 use Rattle.c_viable.proofs.Declarations.{declaration_at_row, declaration_row}

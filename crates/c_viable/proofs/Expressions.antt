@@ -1,25 +1,16 @@
 -- The rows of expressions.
-use Rattle.std.proofs.Common.{◌≡◌, ℕ, zero, suc, ◌⊎◌, inl, inr, Bool, true, false, List, [], ◌∷◌, ◌++◌, Option, Some, None, is_some, refl, sym, ap, ◌∙◌, subst}
+use Rattle.std.proofs.Common.{◌≡◌, ℕ, zero, suc, ◌⊎◌, true, false, [], ◌∷◌, ◌++◌, Some, refl, sym, ap, ◌∙◌, subst}
 use Rattle.c_tree.specs.declared.syntax.Place.{Place}
 use Rattle.c_tree.specs.Syntax as x
-use Rattle.c_parse.specs.declared.symbols.Class.{Class}
-use Rattle.c_parse.specs.declared.symbols.Class.TheVariants as class
-use Rattle.c_parse.specs.declared.symbols.Key.TheVariants as key
-use Rattle.c_parse.specs.declared.symbols.Mark.TheVariants as mark
-use Rattle.c_parse.specs.declared.grammar.Part.{Part}
 use Rattle.c_parse.specs.declared.grammar.Part.TheVariants as part
-use Rattle.c_parse.specs.Symbols.{Sym}
-use Rattle.c_parse.specs.Signs.{prefix_of, prefixed, binary_of, assigns}
-use Rattle.c_parse.specs.Phrases.{Phrase, give, one, ◌or◌, placed}
-use Rattle.c_parse.specs.Phrases as ph
-use Rattle.c_parse.specs.Grammar.{Nest, mark_, key_, name_, number_as, is_text, change_as}
+use Rattle.c_parse.specs.Signs.{prefixed}
+use Rattle.c_parse.specs.Phrases.{Phrase, ◌or◌}
+use Rattle.c_parse.specs.Grammar.{Nest, arguments_of}
 use Rattle.c_parse.specs.Grammar as gr
-use Rattle.c_parse.specs.Expressions.{arguments_of}
 use Rattle.c_viable.specs.declared.terminals.Terminal.TheVariants as terminal
 use Rattle.c_viable.specs.declared.forms.Form.TheVariants as form
 use Rattle.c_viable.specs.declared.rows.TheConstants as rows
 use Rattle.c_viable.specs.declared.productions.TheConstants.{LEVEL}
-use Rattle.c_viable.specs.Terminals.{stands}
 use Rattle.c_viable.proofs.Sequences.{mapped}
 use Rattle.c_viable.proofs.Alternatives.{placed_shows}
 use Rattle.c_viable.proofs.RowLaws.{Level, Row, row, sequence, either, repetition, single, empty, deeper}

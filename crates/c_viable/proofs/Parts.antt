@@ -1,6 +1,6 @@
 -- Cuts of a part of a list are places between its ends.
-use Rattle.std.proofs.Common.{◌≡◌, ℕ, zero, suc, ◌+◌, ◌-◌, ◌<◌, ◌≤◌, ◌⊎◌, inl, inr, ⊎_elim, List, [], ◌∷◌, ◌++◌, length, take, drop, refl, sym, ap, ◌∙◌, subst, arith, length-take, length-drop, length-append, append-nil}
-use Rattle.std.proofs.lemmas.List.{drop-drop, take-take, take_at, drop_at, drop-take, take_all}
+use Rattle.std.proofs.Common.{◌≡◌, ℕ, zero, suc, ◌+◌, ◌-◌, ◌<◌, ◌≤◌, ◌⊎◌, inl, inr, ⊎_elim, List, [], ◌∷◌, ◌++◌, length, take, drop, refl, sym, ap, ◌∙◌, subst, arith, length-take, length-drop, length-append}
+use Rattle.std.proofs.lemmas.List.{drop-drop, take_at, drop_at, take_all}
 use Rattle.std.proofs.Math.Seq.{take-add}
 use Rattle.c_parse.specs.Symbols.{Sym}
 use Rattle.c_viable.specs.Shows.{part}

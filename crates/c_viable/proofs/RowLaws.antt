@@ -1,11 +1,9 @@
 -- What each row of a level shows, by the form that it is.
-use Rattle.std.proofs.Common.{◌≡◌, ℕ, ◌+◌, ◌<◌, ◌≤◌, ◌⊎◌, inl, inr, ⊎_elim, nat_lt, Bool, true, false, ◌&&◌, if◌then◌else◌, List, [], length, take, map, get_or, Option, Some, None, is_some, refl, sym, ap, ◌∙◌, subst, arith}
+use Rattle.std.proofs.Common.{◌≡◌, ℕ, ◌+◌, ◌<◌, ◌≤◌, ◌⊎◌, inl, inr, ⊎_elim, nat_lt, Bool, true, false, ◌&&◌, if◌then◌else◌, List, [], length, take, map, Option, Some, None, is_some, refl, sym, ap, ◌∙◌, subst, arith}
 use Rattle.std.proofs.lemmas.Bool.{false≢true, ltb-true}
 use Rattle.std.proofs.lemmas.List.{get_or-take, length-map}
-use Rattle.c_tree.specs.declared.syntax.Place.{Place}
-use Rattle.c_parse.specs.declared.symbols.Class.{Class}
 use Rattle.c_parse.specs.Symbols.{Sym}
-use Rattle.c_parse.specs.Phrases.{Phrase, nothing, give, one, ◌or◌, ◌>>=◌, repeat, placed, at_most}
+use Rattle.c_parse.specs.Phrases.{Phrase, nothing, give, one, ◌or◌, ◌>>=◌, repeat, at_most}
 use Rattle.c_parse.specs.Grammar.{when}
 use Rattle.c_viable.specs.declared.forms.Form.{Form}
 use Rattle.c_viable.specs.declared.productions.TheConstants.{LEVEL}
@@ -16,9 +14,9 @@ use Rattle.c_viable.specs.Forms.{Setting, Meets, Tells, WholeAt, FrontAt, Stands
 use Rattle.c_viable.specs.Terminals.{stands}
 use Rattle.c_viable.specs.Shows.{part, ShowsIf, Shows}
 use Rattle.c_viable.specs.Known.{table_of}
-use Rattle.c_viable.proofs.Parts.{part_none, part_empty}
+use Rattle.c_viable.proofs.Parts.{part_none}
 use Rattle.c_viable.proofs.Sequences.{then_if, then_tells, repeated}
-use Rattle.c_viable.proofs.Alternatives.{nothing_shows, give_if, give_shows, one_if, one_shows, or_if, or_shows, short_shows, when_if, when_shows}
+use Rattle.c_viable.proofs.Alternatives.{nothing_shows, give_shows, one_if, one_shows, or_if, or_shows, short_shows, when_if, when_shows}
 
 -- the form names rows before this one
 abbrev pub refers : ℕ → Form → Bool

@@ -1,7 +1,7 @@
 -- Phrases that are written differently and are the same.
-use Rattle.std.proofs.Common.{◌≡◌, ℕ, ◌≤◌, ◌⊎◌, inl, inr, ⊎_elim, Bool, true, List, [], ◌∷◌, ◌++◌, length, Option, Some, None, refl, sym, ap, ◌∙◌, subst, append_assoc}
+use Rattle.std.proofs.Common.{◌≡◌, ℕ, ◌≤◌, ◌⊎◌, inl, inr, ⊎_elim, Bool, true, List, [], ◌∷◌, ◌++◌, length, Option, Some, refl, sym, ap, ◌∙◌, subst, append_assoc}
 use Rattle.c_parse.specs.Symbols.{Sym}
-use Rattle.c_parse.specs.Phrases.{Phrase, Cut, give, one, IsOne, ◌or◌}
+use Rattle.c_parse.specs.Phrases.{Phrase, Cut, one, IsOne, ◌or◌}
 use Rattle.c_parse.specs.Phrases as ph
 use Rattle.c_viable.specs.Cells.{Cells}
 use Rattle.c_viable.specs.Shows.{part, ShowsIf, Shows}

@@ -1,12 +1,11 @@
 -- A table of a form shows the phrase of that form, where the tables of its parts show the phrases of the parts: sequences and repetitions.
-use Rattle.std.proofs.Common.{◌≡◌, ℕ, suc, ◌+◌, ◌-◌, ◌<◌, ◌≤◌, ◌⊎◌, inl, inr, ⊎_elim, Bool, true, false, List, [], ◌∷◌, ◌++◌, length, take, drop, refl, sym, ap, ◌∙◌, subst, arith, append-nil, append_assoc, zero}
+use Rattle.std.proofs.Common.{◌≡◌, ℕ, suc, ◌+◌, ◌-◌, ◌<◌, ◌≤◌, ◌⊎◌, inl, inr, ⊎_elim, Bool, true, false, List, [], ◌∷◌, ◌++◌, length, refl, sym, ap, ◌∙◌, subst, arith, append-nil, append_assoc, zero}
 use Rattle.c_parse.specs.Symbols.{Sym}
-use Rattle.c_parse.specs.Phrases.{Phrase, Cut, Steps, StepsFront, done, step, now, later, give, ◌>>=◌, repeat}
-use Rattle.c_viable.specs.Cells.{Cells, table_at}
-use Rattle.c_viable.specs.Forms.{Setting, Meets, Tells, WholeAt, FrontAt, IsForm}
-use Rattle.c_viable.specs.declared.forms.Form.TheVariants as form
+use Rattle.c_parse.specs.Phrases.{Phrase, Steps, StepsFront, done, step, now, later, give, ◌>>=◌, repeat}
+use Rattle.c_viable.specs.Cells.{Cells}
+use Rattle.c_viable.specs.Forms.{Meets, Tells}
 use Rattle.c_viable.specs.Shows.{part, ShowsIf, Shows}
-use Rattle.c_viable.proofs.Parts.{part_cut, At, cut_at, part_none, part_empty, same_or_less}
+use Rattle.c_viable.proofs.Parts.{part_cut, cut_at, part_none, part_empty, same_or_less}
 
 -- the value that the first spells, and the cut that it makes
 module _ {A B : Type 0} (ss : List Sym) (p : Phrase A) (k : A → Phrase B) (test : B → Bool) (x y z : Cells)

@@ -1,5 +1,5 @@
 -- The rows of statements.
-use Rattle.std.proofs.Common.{◌≡◌, ℕ, ◌+◌, ◌≤◌, ◌⊎◌, inl, inr, ⊎_elim, Bool, true, false, not, List, [], ◌∷◌, ◌++◌, length, Option, Some, None, is_some, refl, sym, ap, ◌∙◌, subst, arith, append-nil}
+use Rattle.std.proofs.Common.{◌≡◌, ℕ, ◌+◌, ◌≤◌, ◌⊎◌, inl, inr, ⊎_elim, Bool, true, false, not, List, [], ◌∷◌, ◌++◌, length, Some, None, is_some, refl, sym, ap, ◌∙◌, subst, arith, append-nil}
 use Rattle.std.proofs.lemmas.Bool.{false≢true}
 use Rattle.c_tree.specs.declared.syntax.Place.{Place}
 use Rattle.c_tree.specs.Syntax as x
@@ -10,23 +10,21 @@ use Rattle.c_parse.specs.declared.symbols.Mark.{Mark}
 use Rattle.c_parse.specs.declared.symbols.Mark.TheVariants as mark
 use Rattle.c_parse.specs.declared.grammar.Part.TheVariants as part
 use Rattle.c_parse.specs.Symbols.{Sym}
-use Rattle.c_parse.specs.Phrases.{Phrase, Cut, give, ◌or◌, placed}
+use Rattle.c_parse.specs.Phrases.{Phrase, give, ◌or◌, placed}
 use Rattle.c_parse.specs.Phrases as ph
 use Rattle.c_parse.specs.Grammar.{one_if, when, mark_, key_, expression}
 use Rattle.c_parse.specs.DeclarationGrammar.{declaration}
 use Rattle.c_parse.specs.StatementGrammar as gr
-use Rattle.c_parse.specs.StatementGrammar.{Inside, is_open}
-use Rattle.c_parse.specs.Statements.{items_of, block_of}
+use Rattle.c_parse.specs.StatementGrammar.{Inside, is_open, items_of, block_of}
 use Rattle.c_viable.specs.declared.terminals.Terminal.TheVariants as terminal
 use Rattle.c_viable.specs.declared.forms.Form.TheVariants as form
 use Rattle.c_viable.specs.declared.rows.TheConstants as rows
 use Rattle.c_viable.specs.declared.productions.TheConstants.{LEVEL}
-use Rattle.c_viable.specs.Terminals.{stands, is_single}
+use Rattle.c_viable.specs.Terminals.{is_single}
 use Rattle.c_viable.specs.Cells.{Cells}
 use Rattle.c_viable.specs.Known.{table_of, is_closed}
-use Rattle.c_viable.specs.Forms.{Meets, Tells}
-use Rattle.c_viable.specs.Shows.{part, ShowsIf, Shows}
-use Rattle.c_viable.proofs.Parts.{At, cut_at, part_cut}
+use Rattle.c_viable.specs.Shows.{part}
+use Rattle.c_viable.proofs.Parts.{cut_at, part_cut}
 use Rattle.c_viable.proofs.Sequences.{mapped, mapped_if}
 use Rattle.c_viable.proofs.Alternatives.{placed_shows, placed_if}
 use Rattle.c_viable.proofs.RowLaws.{Level, Row, RowIf, row, sequence, sequence_if, either, either_if, repetition, single, empty, deeper, deeper_if, then_whole, behind_whole, behind_front, or_whole, or_front}

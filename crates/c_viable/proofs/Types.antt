@@ -10,19 +10,19 @@ use Rattle.c_parse.specs.declared.symbols.Mark.{Mark}
 use Rattle.c_parse.specs.declared.symbols.Mark.TheVariants as mark
 use Rattle.c_viable.specs.declared.terminals.Terminal.{Terminal}
 use Rattle.c_parse.specs.Symbols.{Sym}
-use Rattle.c_parse.specs.Signs.{base_of, is_number, is_star, same_key, is_mark, is_key, is_name}
-use Rattle.c_parse.specs.Phrases.{Phrase, give, one, ◌or◌}
+use Rattle.c_parse.specs.Signs.{base_of, is_number, same_key, is_key}
+use Rattle.c_parse.specs.Phrases.{Phrase, give, ◌or◌}
 use Rattle.c_parse.specs.Phrases as ph
 use Rattle.c_parse.specs.DeclarationGrammar.{star_}
-use Rattle.c_parse.specs.Grammar.{one_if, one_as, mark_, key_, name_, flag, flag_if, long_int, type_base, type_name, star, separated, one_more}
+use Rattle.c_parse.specs.Grammar.{one_if, one_as, mark_, key_, name_, flag, flag_if, long_int, type_base, type_name, star, separated}
 use Rattle.c_viable.specs.declared.terminals.Terminal.TheVariants as terminal
 use Rattle.c_viable.specs.declared.forms.Form.TheVariants as form
 use Rattle.c_viable.specs.declared.productions.TheConstants.{LEVEL}
-use Rattle.c_viable.specs.declared.rows.TheConstants.{EMPTY, INT, LONG, OTHER_BASE, STAR, INT_OR_NOT, INT_BASE, LONG_BASE, NUMBER_BASE, OTHER_TYPE, TYPE_BASE, STAR_OR_NOT, NUMBER_TYPE, OTHER_NAME, TYPE_NAME, COMMA}
-use Rattle.c_viable.specs.Terminals.{stands, is_other_base, other_base}
+use Rattle.c_viable.specs.declared.rows.TheConstants.{EMPTY, STAR, INT_OR_NOT, INT_BASE, LONG_BASE, NUMBER_BASE, OTHER_TYPE, TYPE_BASE, STAR_OR_NOT, TYPE_NAME}
+use Rattle.c_viable.specs.Terminals.{stands, is_other_base}
 use Rattle.c_viable.proofs.Same.{Same, same_shows, same_then, same_trans, same_or, same_self, or_then, regroup, one_or}
 use Rattle.c_viable.proofs.Sequences.{mapped, given}
-use Rattle.c_viable.proofs.RowLaws.{Level, Row, RowIf, row, sequence, sequence_by, either, repetition, single, empty}
+use Rattle.c_viable.proofs.RowLaws.{Level, Row, row, sequence, sequence_by, either, repetition, single, empty}
 
 -- ---- single symbols
 

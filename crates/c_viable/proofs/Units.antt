@@ -1,12 +1,12 @@
 -- The rows of functions and of a source.
-use Rattle.std.proofs.Common.{◌≡◌, ℕ, Bool, true, false, List, [], ◌∷◌, ◌++◌, Option, Some, None, is_some, refl, sym, subst}
+use Rattle.std.proofs.Common.{◌≡◌, ℕ, Bool, true, false, List, [], ◌∷◌, ◌++◌, Some, None, is_some, refl, sym, subst}
 use Rattle.c_tree.specs.declared.syntax.Place.{Place}
 use Rattle.c_tree.specs.declared.syntax.Returns.{Returns}
 use Rattle.c_tree.specs.declared.syntax.Returns.TheVariants.{Void, Value}
 use Rattle.c_tree.specs.Syntax as x
 use Rattle.c_parse.specs.declared.symbols.Class.{Class}
 use Rattle.c_parse.specs.declared.symbols.Class.TheVariants as class
-use Rattle.c_parse.specs.Sources.{most_deep}
+use Rattle.c_parse.specs.SourceGrammar.{most_deep}
 use Rattle.c_parse.specs.DeclarationGrammar.{declaration_at}
 use Rattle.c_parse.specs.StatementGrammar.{body, inside}
 use Rattle.c_parse.specs.SourceGrammar as gr

@@ -5,12 +5,11 @@ use Rattle.c_tree.specs.Syntax as x
 use Rattle.c_parse.specs.declared.symbols.Class.{Class}
 use Rattle.c_parse.specs.Symbols.{Sym}
 use Rattle.c_parse.specs.Parsed.{Viable}
-use Rattle.c_parse.specs.SourceGrammar.{unit}
-use Rattle.c_parse.specs.Sources.{most_deep}
+use Rattle.c_parse.specs.SourceGrammar.{unit, most_deep}
 use Rattle.c_viable.specs.declared.rows.TheConstants.{UNIT}
 use Rattle.c_viable.specs.Cells.{Flags, table_at}
 use Rattle.c_viable.specs.Forms.{Tells}
-use Rattle.c_viable.specs.Shows.{part, Shows}
+use Rattle.c_viable.specs.Shows.{Shows}
 use Rattle.c_viable.specs.Known.{Known, table_of}
 use Rattle.c_viable.proofs.Parts.{part_all}
 

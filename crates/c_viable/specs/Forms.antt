@@ -4,7 +4,7 @@ use Rattle.c_parse.specs.declared.symbols.Class.{Class}
 use Rattle.c_parse.specs.declared.symbols.Class.TheVariants as class
 use Rattle.c_viable.specs.declared.forms.Form.{Form}
 use Rattle.c_viable.specs.declared.forms.Form.TheVariants as form
-use Rattle.c_viable.specs.Cells.{Flags, Cells, cells, table_at}
+use Rattle.c_viable.specs.Cells.{Flags, Cells, table_at}
 use Rattle.c_viable.specs.Terminals.{stands}
 
 -- the flag says whether it holds

@@ -1,15 +1,13 @@
 -- What the tables of one level show, and what is found of a whole list.
 use Rattle.std.specs.Prelude.{◌≡◌, ℕ, Bool, not, List}
 use Rattle.c_tree.specs.Syntax as x
-use Rattle.c_tree.specs.declared.syntax.Place.{Place}
 use Rattle.c_parse.specs.declared.grammar.Part.TheVariants as part
 use Rattle.c_parse.specs.Symbols.{Sym}
-use Rattle.c_parse.specs.Phrases.{Phrase, placed}
+use Rattle.c_parse.specs.Phrases.{placed}
 use Rattle.c_parse.specs.Grammar.{production, nest, expression}
-use Rattle.c_parse.specs.DeclarationGrammar.{declaration, declaration_at}
-use Rattle.c_parse.specs.StatementGrammar.{is_open, statement_at, body, inside}
-use Rattle.c_parse.specs.SourceGrammar.{unit}
-use Rattle.c_parse.specs.Sources.{most_deep}
+use Rattle.c_parse.specs.DeclarationGrammar.{declaration}
+use Rattle.c_parse.specs.StatementGrammar.{is_open, statement_at, inside}
+use Rattle.c_parse.specs.SourceGrammar.{unit, most_deep}
 use Rattle.c_viable.specs.declared.rows.TheConstants as rows
 use Rattle.c_viable.specs.Cells.{Flags, Cells, table_at}
 use Rattle.c_viable.specs.Shows.{Shows, ShowsIf}

@@ -3,9 +3,8 @@ use Rattle.std.specs.Prelude.{Bool, true, false, not, Option, Some, None, is_som
 use Rattle.c_tree.specs.declared.syntax.Base.{Base}
 use Rattle.c_parse.specs.declared.symbols.Class.{Class}
 use Rattle.c_parse.specs.declared.symbols.Class.TheVariants as class
-use Rattle.c_parse.specs.Signs.{is_mark, is_key, is_name, binary_of, prefix_of, assigns, base_of, is_number, is_star}
+use Rattle.c_parse.specs.Signs.{is_mark, is_key, is_name, binary_of, prefix_of, assigns, base_of, is_number, is_star, is_equals}
 use Rattle.c_parse.specs.Grammar.{number_as, is_text, change_as}
-use Rattle.c_parse.specs.DeclarationGrammar.{is_equals}
 use Rattle.c_parse.specs.StatementGrammar.{is_barrier}
 use Rattle.c_viable.specs.declared.terminals.Terminal.{Terminal}
 use Rattle.c_viable.specs.declared.terminals.Terminal.TheVariants as terminal

@@ -1,7 +1,6 @@
 //! The forms that productions are made of, and their tables.
 ghost use Rattle.std.specs.Prelude.{◌≡◌, ◌+◌, ◌≤◌, ℕ, length, IfOk};
 ghost use Rattle.c_viable.specs.Cells.{bit, cells, table_at};
-ghost use Rattle.c_viable.specs.Forms as spec;
 ghost use Rattle.c_viable.specs.Forms.{Tells, Meets, WholeAt, FrontAt, IsForm, Evaluated, StandsAt};
 ghost use Rattle.c_viable.specs.Terminals.{stands as spec_stands};
 

@@ -1,7 +1,7 @@
 //! The tables of the levels, from that in which nothing may be deeper upwards.
 ghost use Rattle.std.specs.Prelude.{◌≡◌, List, map, IfOk};
 ghost use Rattle.c_parse.specs.Symbols.{Sym};
-ghost use Rattle.c_parse.specs.Sources.{most_deep};
+ghost use Rattle.c_parse.specs.SourceGrammar.{most_deep};
 ghost use Rattle.c_viable.specs.Known.{Known};
 
 use crate::forms::evaluated;

@@ -4,7 +4,7 @@ use c_lex::lex;
 use c_parse::symbols::{Class, Key, Mark};
 use c_parse::{ParseRefusal, parse};
 use c_tree::syntax::{Binary, Change, Unary};
-use mpc_base::{Level, Memory};
+use mpc_base::Memory;
 use rand_core::utils::NextWord;
 use rand_pcg::Pcg32;
 use std::alloc::Global;

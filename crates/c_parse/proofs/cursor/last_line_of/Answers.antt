@@ -1,7 +1,6 @@
 use Rattle.std.proofs.Common.{◌++◌, ◌∷◌, [], take, map, sym, ap, ◌∙◌}
 use Rattle.std.proofs.lemmas.List.{take_more}
-use Rattle.c_parse.specs.Symbols.{sym_of}
-use Rattle.c_parse.specs.Sources.{last_line}
+use Rattle.c_parse.specs.Symbols.{sym_of, last_line}
 use Rattle.c_parse.proofs.LastLines.{one_later}
 use Rattle.c_parse.proofs.cursor.last_line_of.Goals as goal
 

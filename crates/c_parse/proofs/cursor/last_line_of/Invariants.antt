@@ -1,6 +1,5 @@
 use Rattle.std.proofs.Common.{◌≡◌, ℕ, List, take, map}
-use Rattle.c_parse.specs.Symbols.{sym_of}
-use Rattle.c_parse.specs.Sources.{last_line}
+use Rattle.c_parse.specs.Symbols.{sym_of, last_line}
 use Rattle.c_parse.proofs.cursor.last_line_of.Given as goal
 
 abbrev pub invariant-loop-symbol : goal.invariant-loop-symbol

@@ -1,5 +1,5 @@
 use Rattle.std.proofs.Common.{◌≡◌, ℕ, ◌<◌, ◌≤◌, true}
-use Rattle.c_viable.specs.Cells.{bit, table_at}
+use Rattle.c_viable.specs.Cells.{table_at}
 use Rattle.c_viable.proofs.forms.cuts.Given as goal
 
 abbrev pub invariant-loop-place : goal.invariant-loop-place

@@ -1,5 +1,5 @@
 use Rattle.std.proofs.Common.{◌≡◌, ℕ, ◌<◌, length, take}
-use Rattle.c_viable.specs.Cells.{cells, table_at}
+use Rattle.c_viable.specs.Cells.{table_at}
 use Rattle.c_viable.specs.Forms.{IsForm, form_at}
 use Rattle.c_viable.proofs.forms.evaluated.Given as goal
 
