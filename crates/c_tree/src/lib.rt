@@ -14,6 +14,7 @@ mod reading;
 pub mod scripts;
 pub mod syntax;
 mod variables;
+pub mod words;
 
 pub use laws::next_laws;
 pub use names::{Identifier, Identifiers};

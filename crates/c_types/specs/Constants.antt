@@ -1,7 +1,6 @@
 -- Constant expressions (C99, section 6.6): their types and values. What is not evaluated has to be constant too, but
 -- may have a fault.
-use Rattle.std.specs.Prelude.{ℕ, ℤ, pos, Bool, true, false, cond, not, ◌&&◌, nat_eq, List, [], ◌∷◌, ◌++◌, length, replicate, nat_le, Option, None, Some, option_map, option_and_then, ◌-◌, Result, Ok, Err}
-use Rattle.std.specs.Ordering.{int_eq}
+use Rattle.std.specs.Prelude.{ℕ, ℤ, pos, Bool, true, false, cond, not, ◌&&◌, List, [], ◌∷◌, ◌++◌, length, replicate, nat_le, Option, None, Some, option_map, option_and_then, ◌-◌, Result, Ok, Err}
 use Rattle.mpc_base.specs.declared.faults.Fault.{Fault}
 use Rattle.mpc_base.specs.declared.values.Word.{Word}
 use Rattle.mpc_base.specs.declared.values.Word.TheVariants as word
@@ -19,6 +18,7 @@ use Rattle.c_tree.specs.declared.syntax.Binary.{Binary}
 use Rattle.c_tree.specs.declared.syntax.Binary.TheVariants as sign
 use Rattle.c_tree.specs.Arithmetic.{operated, negated, complemented, compared}
 use Rattle.c_tree.specs.Numbers.{wrapped}
+use Rattle.c_tree.specs.Words.{holds, truth, same_word}
 use Rattle.c_tree.specs.Syntax as x
 use Rattle.c_types.specs.declared.kinds.Kind.{Kind}
 use Rattle.c_types.specs.declared.kinds.Kind.TheVariants.{Plain, Pointer}
@@ -88,25 +88,6 @@ abbrev pub number_in : Word → ℤ
 number_in (word.Int z) = z
 number_in other = pos 0
 
--- a number other than 0, or a pointer that is not NULL
-abbrev pub is_true : Word → Bool
-is_true (word.Int z) = not (int_eq z (pos 0))
-is_true word.Null = false
-is_true other = true
-
--- two constants that are no pointers into memory are the same
-abbrev pub same_word : Word → Word → Bool
-same_word (word.Int a) (word.Int b) = int_eq a b
-same_word word.Null word.Null = true
-same_word (word.Comm a) (word.Comm b) = nat_eq a b
-same_word (word.Req a) (word.Req b) = nat_eq a b
-same_word a b = false
-
--- 1 or 0
-abbrev pub truth_word : Bool → Word
-truth_word true = word.Int (pos 1)
-truth_word false = word.Int (pos 0)
-
 -- the number, where there is no fault
 abbrev pub word_of : Result ℤ Fault → Option Word
 word_of (Ok z) = Some (word.Int z)
@@ -128,20 +109,20 @@ operated_words width operation a b = word_of (operated width operation (number_i
 
 -- 0 or 1 for a value
 abbrev pub truth_of : Option Word → Option Word
-truth_of value = option_map (λ w. truth_word (is_true w)) value
+truth_of value = option_map (λ w. truth (holds w)) value
 
 -- the value of && and ||, whose right side counts only where the left one does not decide
 abbrev pub conjoined : Option Word → Option Word → Option Word
 conjoined None b = None
-conjoined (Some a) b = cond (is_true a) (truth_of b) (Some (truth_word false))
+conjoined (Some a) b = cond (holds a) (truth_of b) (Some (truth false))
 
 abbrev pub disjoined : Option Word → Option Word → Option Word
 disjoined None b = None
-disjoined (Some a) b = cond (is_true a) (Some (truth_word true)) (truth_of b)
+disjoined (Some a) b = cond (holds a) (Some (truth true)) (truth_of b)
 
 abbrev pub binary_value : Meaning → Constant → Constant → Option Word
 binary_value (Operates operation) a b = on_both (operated_words (operation_width operation (Some a.kind) (Some b.kind)) operation) a.value b.value
-binary_value (Compares comparison) a b = on_both (λ v w. Some (truth_word (compared_words comparison v w))) a.value b.value
+binary_value (Compares comparison) a b = on_both (λ v w. Some (truth (compared_words comparison v w))) a.value b.value
 binary_value Conjunction a b = conjoined a.value b.value
 binary_value Disjunction a b = disjoined a.value b.value
 
@@ -158,12 +139,12 @@ binary_constant by a b = None
 abbrev pub unary_value : Unary → Kind → Word → Option Word
 unary_value unary.Minus k a = word_of (negated (width_of (Some k)) (number_in a))
 unary_value unary.Plus k a = Some a
-unary_value unary.Not k a = Some (truth_word (not (is_true a)))
+unary_value unary.Not k a = Some (truth (not (holds a)))
 unary_value unary.Complement k a = Some (word.Int (complemented (number_in a)))
 unary_value unary.Indirection k a = None
 unary_value unary.Address k a = None
 
--- what the rules read of a sign before a constant; * and & make none
+-- the type of a sign before a constant; * and & make none
 abbrev pub unary_kind : Unary → Kind → Option Kind
 unary_kind unary.Minus k = kind (Operand (operand.Signed (Some k)))
 unary_kind unary.Plus k = kind (Operand (operand.Signed (Some k)))
@@ -188,7 +169,7 @@ cast_constant to (Some a) = cond to.pointer None (constant_if (kind (Operand (op
 -- the chosen value
 abbrev pub chosen : Option Word → Option Word → Option Word → Option Word
 chosen None a b = None
-chosen (Some test) a b = cond (is_true test) a b
+chosen (Some test) a b = cond (holds test) a b
 
 abbrev pub choice_constant : Option Constant → Option Constant → Option Constant → Option Constant
 choice_constant (Some test) (Some a) (Some b) = constant_if (kind (Operator (operator.Chosen (Some test.kind) (Some a.kind) (Some b.kind)))) (chosen test.value a.value b.value)

@@ -13,6 +13,7 @@ use crate::shapes::{OperandShape, OperatorShape, Shape};
 use c_tree::arithmetic::{compare, complement, compute, negate, wrap};
 use c_tree::program::{Comparison, Operation, Width};
 use c_tree::syntax::{Base, Binary, Expr, Initializer, TypeName, Unary};
+use c_tree::words::{holds, same_word, truth};
 use mpc_base::{Memory, Word};
 use std::alloc::Global;
 
@@ -26,38 +27,11 @@ fn number_in(word: Word) -> i64
     }
 }
 
-fn is_true(word: Word) -> bool
-    ensures { result ≡ constants.is_true word }
-{
-    match word {
-        Word::Int(number) => number != 0,
-        Word::Null => false,
-        _ => true,
-    }
-}
-
-fn same_word(a: Word, b: Word) -> bool
-    ensures { result ≡ constants.same_word a b }
-{
-    match (a, b) {
-        (Word::Int(a), Word::Int(b)) => a == b,
-        (Word::Null, Word::Null) => true,
-        (Word::Comm(a), Word::Comm(b)) | (Word::Req(a), Word::Req(b)) => a == b,
-        _ => false,
-    }
-}
-
-fn truth_word(truth: bool) -> Word
-    ensures { result ≡ constants.truth_word truth }
-{
-    if truth { Word::Int(1) } else { Word::Int(0) }
-}
-
 fn truth_of(value: Option<Word>) -> Option<Word>
     ensures { result ≡ constants.truth_of value }
 {
     match value {
-        Some(word) => Some(truth_word(is_true(word))),
+        Some(word) => Some(truth(holds(word))),
         None => None,
     }
 }
@@ -88,10 +62,10 @@ fn conjoined(a: Option<Word>, b: Option<Word>) -> Option<Word>
 {
     match a {
         None => None,
-        Some(a) => if is_true(a) {
+        Some(a) => if holds(a) {
             truth_of(b)
         } else {
-            Some(truth_word(false))
+            Some(truth(false))
         },
     }
 }
@@ -102,8 +76,8 @@ fn disjoined(a: Option<Word>, b: Option<Word>) -> Option<Word>
 {
     match a {
         None => None,
-        Some(a) => if is_true(a) {
-            Some(truth_word(true))
+        Some(a) => if holds(a) {
+            Some(truth(true))
         } else {
             truth_of(b)
         },
@@ -122,7 +96,7 @@ fn binary_value(meaning: Meaning, a: Constant, b: Constant) -> Option<Word>
             }
         }
         Meaning::Compares(comparison) => match (a.value, b.value) {
-            (Some(a), Some(b)) => Some(truth_word(compared_words(comparison, a, b))),
+            (Some(a), Some(b)) => Some(truth(compared_words(comparison, a, b))),
             _ => None,
         },
         Meaning::Conjunction => conjoined(a.value, b.value),
@@ -161,7 +135,7 @@ fn unary_value(sign: Unary, kind: Kind, a: Word) -> Option<Word>
             Err(_) => None,
         },
         Unary::Plus => Some(a),
-        Unary::Not => Some(truth_word(!is_true(a))),
+        Unary::Not => Some(truth(!holds(a))),
         Unary::Complement => Some(Word::Int(complement(number_in(a)))),
         Unary::Indirection | Unary::Address => None,
     }
@@ -230,7 +204,7 @@ fn chosen(test: Option<Word>, a: Option<Word>, b: Option<Word>) -> Option<Word>
     ensures { result ≡ constants.chosen test a b }
 {
     match test {
-        Some(test) => if is_true(test) { a } else { b },
+        Some(test) => if holds(test) { a } else { b },
         None => None,
     }
 }

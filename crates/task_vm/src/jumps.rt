@@ -7,9 +7,9 @@ ghost use Rattle.c_code.specs.Machine.{Moves, next, on_top, turned, entered, lef
 ghost use Rattle.task_vm.specs.Seen.{Shows};
 
 use crate::machine::{Machine, Step, breaks};
-use crate::words::{holds, int_of};
+use crate::words::int_of;
 use c_code::{Code, Entry};
-use mpc_base::{Call, Fault, Memory, Word};
+use mpc_base::{Call, Fault, Memory};
 
 /// How many calls may wait for a function: 1,024 may be open.
 const MAX_WAITING: usize = 1023;

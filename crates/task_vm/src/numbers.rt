@@ -11,7 +11,7 @@ ghost use Rattle.c_code.specs.Machine.{Mach, next, on_top, number_next, word_nex
 ghost use Rattle.task_vm.specs.Seen.{Shows};
 
 use crate::machine::{Machine, Step, breaks};
-use crate::words::{elements, holds, int_of, long_of, moved, number_of, same_word, truth};
+use crate::words::{elements, int_of, long_of, moved, number_of};
 use c_tree::arithmetic::{compare, complement, compute, negate, wrap};
 use c_tree::program::{Comparison, Operation, Update, Width};
 use mpc_base::{Call, Fault, Word};

@@ -6,7 +6,7 @@ ghost use Rattle.task_vm.specs.Tasks.{IsAsking};
 
 use crate::frames::Frames;
 use crate::printing::printed;
-use crate::words::{elements, holds, malloc_words, moved, read_as, same_word};
+use crate::words::{elements, malloc_words, moved, read_as};
 use crate::{Task, Want};
 use c_code::{Code, Entry, Instr};
 use c_tree::formats::{Format, Piece};

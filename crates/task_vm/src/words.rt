@@ -100,52 +100,6 @@ pub(crate) fn read_as(scalar: Scalar, word: Word) -> Word
     }
 }
 
-/// Whether a number or pointer holds as a condition: it is neither 0 nor NULL.
-pub(crate) fn holds(word: Word) -> bool
-    ensures { result ≡ words.holds word }
-{
-    match word {
-        Word::Int(number) => number != 0,
-        Word::Ptr { .. } => true,
-        _ => false,
-    }
-}
-
-/// 1 where a condition holds, and else 0.
-pub(crate) fn truth(condition: bool) -> Word
-    ensures { result ≡ words.truth condition }
-{
-    if condition {
-        Word::Int(1)
-    } else {
-        Word::Int(0)
-    }
-}
-
-fn same_object(left: Obj, right: Obj) -> bool
-    ensures { result ≡ words.same_object left right }
-{
-    match (left, right) {
-        (Obj::Glob(a), Obj::Glob(b)) => a == b,
-        (Obj::Dyn(a), Obj::Dyn(b)) => a == b,
-        _ => false,
-    }
-}
-
-/// Whether two words are the same.
-pub(crate) fn same_word(left: Word, right: Word) -> bool
-    ensures { result ≡ words.same_word left right }
-{
-    match (left, right) {
-        (Word::Undef, Word::Undef) | (Word::Null, Word::Null) => true,
-        (Word::Int(a), Word::Int(b)) => a == b,
-        (Word::Ptr { obj: a, at: i }, Word::Ptr { obj: b, at: j }) => same_object(a, b) && i == j,
-        (Word::Comm(a), Word::Comm(b)) => a == b,
-        (Word::Req(a), Word::Req(b)) => a == b,
-        _ => false,
-    }
-}
-
 /// A pointer so many words further, or back: NullAccess where the word is no pointer, Bounds where the
 /// place is not from 0 to 4,294,967,295.
 pub(crate) fn moved(word: Word, distance: i128) -> Result<Word, Fault>
