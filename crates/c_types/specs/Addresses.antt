@@ -38,7 +38,7 @@ abbrev pub mark : Frame → Option Decl → Frame
 mark frame (Some (decl.Variable variable)) = mark_home frame variable.home
 mark frame declared = frame
 
--- a sign stands before an operand
+-- behind a sign before an operand: & marks the local that it names
 abbrev pub located : Unary → Frame → Expr → Frame
 located unary.Address frame (Name at name) = mark frame (find name frame.scopes)
 located sign frame operand = frame

@@ -66,23 +66,24 @@ side_of scopes (Index at array index) kind = element_side kind
 side_of scopes (Unary' at sign operand) kind = pointed_side sign kind
 side_of scopes e kind = left.Nothing
 
--- the element of the pointer that a malloc on the right side is for; only int and long have a size
-abbrev pub sized : Base → Option Base
-sized base.Int = Some base.Int
-sized base.Long = Some base.Long
-sized other = None
-
+-- the element of the pointer that a malloc is for where this type is due
 abbrev pub wanted_by : Kind → Option Base
-wanted_by (Pointer element) = sized element
+wanted_by (Pointer element) = Some element
 wanted_by kind = None
 
 abbrev pub wanted : Left → Option Base
 wanted (left.Typed kind) = wanted_by kind
 wanted side = None
 
--- the same under a cast
+-- the same under a cast to a pointer
 abbrev pub cast_want : TypeName → Option Base
-cast_want to = cond to.pointer (sized to.base) None
+cast_want to = cond to.pointer (Some to.base) None
+
+-- the element, where a malloc can be for it: only int and long have a size
+abbrev pub sized : Option Base → Option Base
+sized (Some base.Int) = Some base.Int
+sized (Some base.Long) = Some base.Long
+sized want = None
 
 abbrev pub names_malloc : Option Decl → Bool
 names_malloc (Some (decl.Known a_known.Malloc)) = true
@@ -191,7 +192,7 @@ abbrev pub call_shape : Env → Option Base → Option Decl → Exprs → List (
 call_shape env want (Some (decl.Function place)) arguments kinds givens = own_shape (slice_get env.functions place) kinds
 call_shape env want (Some (decl.Known (a_known.Mpi function))) arguments kinds givens = mpi_shape function env.scopes arguments givens
 call_shape env want (Some (decl.Known a_known.Printf)) arguments kinds givens = shape.Call (call.Printf (prints_all arguments kinds))
-call_shape env want (Some (decl.Known a_known.Malloc)) arguments kinds givens = shape.Call (call.Malloc want (is_one_number kinds))
+call_shape env want (Some (decl.Known a_known.Malloc)) arguments kinds givens = shape.Call (call.Malloc (sized want) (is_one_number kinds))
 call_shape env want (Some (decl.Known a_known.Free)) arguments kinds givens = shape.Call (call.Free (is_one_pointer kinds))
 call_shape env want declared arguments kinds givens = shape.Call call.Nothing
 

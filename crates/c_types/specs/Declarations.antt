@@ -73,7 +73,7 @@ static_words env base d = static_words_in env (object_words base d)
 abbrev pub first_words : Env → Base → Declarator → Option (List Word)
 first_words env base d = initial_words (element_kind base d) (is_array d) (unwrap_or (static_words env base d) 0) d.initializer
 
--- so many words, these first; where the limits are not kept, none
+-- a variable of so many words, which starts with these; where the limits are not kept, one without words
 abbrev pub static_of : Option ℕ → Option (List Word) → StaticVar
 static_of None first = record { len = 0; level = None; first = [] }
 static_of (Some words) first = record { len = words; level = None; first = unwrap_or first [] }

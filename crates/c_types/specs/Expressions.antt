@@ -1,6 +1,5 @@
 -- What the rules read of an expression and of what stands in it, and its type.
 use Rattle.std.specs.Prelude.{List, [], ◌∷◌, Option, None, Some, cond, is_some}
-use Rattle.c_tree.specs.declared.syntax.Place.{Place}
 use Rattle.c_tree.specs.declared.syntax.Base.{Base}
 use Rattle.c_tree.specs.declared.syntax.Binary.{Binary}
 use Rattle.c_tree.specs.Syntax.{Expr, Exprs, Name, Number, Text, Call, Index, Field, Postfix, Prefix, Unary', Cast, SizeOf, Binary', Choice, Assign, End, More}
@@ -53,23 +52,6 @@ abbrev mutual
 -- the type of an expression, if it has one
 abbrev pub kind_of : Env → Option Base → Expr → Option Kind
 kind_of env want e = kind (shape_of env want e)
-
--- where an expression begins
-abbrev pub place_of : Expr → Place
-place_of (Name at name) = at
-place_of (Number at value is_long) = at
-place_of (Text at text) = at
-place_of (Call at name arguments) = at
-place_of (Index at array index) = at
-place_of (Field at value name) = at
-place_of (Postfix at change value) = at
-place_of (Prefix at change value) = at
-place_of (Unary' at sign value) = at
-place_of (Cast at to value) = at
-place_of (SizeOf at base) = at
-place_of (Binary' at sign left right) = at
-place_of (Choice at test left right) = at
-place_of (Assign at sign left right) = at
 
 -- the nodes of an expression
 abbrev mutual

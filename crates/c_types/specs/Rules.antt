@@ -186,7 +186,7 @@ is_value_amiss kind (initial.Value given) = misses (agree kind) given
 is_value_amiss kind initial.List = true
 is_value_amiss kind given = false
 
--- a variable that holds more than one value and so has no initializer, unless it is static
+-- an array or a status, which has no initializer, unless it is static
 abbrev pub is_whole : Declared → Bool
 is_whole declared = declared.is_array || is_status declared.kind
 

@@ -16,7 +16,7 @@ ghost use Rattle.c_types.specs.declared.shapes.Shape.TheVariants.{Call};
 use crate::arguments::{
     all_agree, all_meet, datatypes_agree, first_datatype, is_ignored, last_datatype, operation_of,
 };
-use crate::calls::{are_two, is_one_number, is_one_pointer, may_start};
+use crate::calls::{are_two, is_one_number, is_one_pointer, may_start, sized};
 use crate::constants::size_of;
 use crate::formats::{ReadFormat, are_printed, read_format};
 use crate::kinds::{Given, Kind};
@@ -168,13 +168,13 @@ pub fn malloc_call(
     line: u32,
     given: Every,
 ) -> Result<Looked, Memory>
-    ensures kind { IfOk result (λ r. r.kind ≡ rules.kind (Call (call.Malloc want (calls.is_one_number given.kinds.items)))) }
+    ensures kind { IfOk result (λ r. r.kind ≡ rules.kind (Call (call.Malloc (calls.sized want) (calls.is_one_number given.kinds.items)))) }
     ensures first { IfOk result (λ r. fault r.made
-        ≡ blame (rules.rule (Call (call.Malloc want (calls.is_one_number given.kinds.items)))) line (fault given.made)) }
+        ≡ blame (rules.rule (Call (call.Malloc (calls.sized want) (calls.is_one_number given.kinds.items)))) line (fault given.made)) }
     ensures made { IfOk result (λ r. (es : program.Exprs) → MakesAll given.made es → Makes r.made
         (program.Malloc (typed.element_size want) (typed.first_of_all es))) }
 {
-    let shape = Shape::Call(CallShape::Malloc(want, is_one_number(&given.kinds)));
+    let shape = Shape::Call(CallShape::Malloc(sized(want), is_one_number(&given.kinds)));
     let kind = kind(shape);
     match blamed(shape, line, given.made) {
         Ok(arguments) => {

@@ -98,23 +98,12 @@ pub fn side_of(names: &Names, e: &Expr, kind: Option<Kind>) -> Left
     }
 }
 
-// The element, where it has a size.
-fn sized(element: Base) -> Option<Base>
-    ensures { result ≡ calls.sized element }
-{
-    match element {
-        Base::Int => Some(Base::Int),
-        Base::Long => Some(Base::Long),
-        _ => None,
-    }
-}
-
 /// The element of the pointer that a malloc is for where this type is due.
 pub fn wanted_by(kind: Kind) -> Option<Base>
     ensures { result ≡ calls.wanted_by kind }
 {
     match kind {
-        Kind::Pointer(element) => sized(element),
+        Kind::Pointer(element) => Some(element),
         _ => None,
     }
 }
@@ -129,11 +118,22 @@ pub fn wanted(side: Left) -> Option<Base>
     }
 }
 
-/// The same under a cast.
+/// The same under a cast to a pointer.
 pub fn cast_want(to: TypeName) -> Option<Base>
     ensures { result ≡ calls.cast_want to }
 {
-    if to.pointer { sized(to.base) } else { None }
+    if to.pointer { Some(to.base) } else { None }
+}
+
+/// The element, where a malloc can be for it: only int and long have a size.
+pub fn sized(want: Option<Base>) -> Option<Base>
+    ensures { result ≡ calls.sized want }
+{
+    match want {
+        Some(Base::Int) => Some(Base::Int),
+        Some(Base::Long) => Some(Base::Long),
+        _ => None,
+    }
 }
 
 fn names_malloc(declared: Option<Decl>) -> bool

@@ -10,6 +10,7 @@ ghost use Rattle.c_types.specs.Keys.{Holds};
 ghost use Rattle.c_types.specs.Nodes.{first_of};
 ghost use Rattle.c_types.specs.Outcomes.{fault};
 
+use crate::calls::wanted_by;
 use crate::constants::initial_words;
 use crate::expressions::{Looked, look};
 use crate::kinds::{Decl, Home, Kind, Variable};
@@ -19,9 +20,7 @@ use crate::names::Names;
 use crate::outcomes::{appended, blamed, then};
 use crate::refusals::TypeRefusal;
 use crate::shapes::{Declared, Initial, ItemShape, Shape};
-use crate::variables::{
-    declared_kind, element_kind, is_array, object_words, variable_of, wanted_by,
-};
+use crate::variables::{declared_kind, element_kind, is_array, object_words, variable_of};
 use c_tree::program::{Expr, Stmt};
 use c_tree::syntax::{Base, Declaration, Declarator, Initializer};
 use mpc_base::{Memory, StaticVar, Word, Words};

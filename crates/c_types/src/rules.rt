@@ -176,7 +176,7 @@ fn is_value_amiss(kind: Kind, initial: Initial) -> bool
     }
 }
 
-// It holds more than one value.
+// An array or a status.
 fn is_whole(declared: Declared) -> bool
     ensures { result ≡ rules.is_whole declared }
 {

@@ -1,7 +1,6 @@
 //! Statements that hold no others: what a pass finds of them.
 ghost use Rattle.std.specs.Prelude.{◌≡◌, IfOk, OnOk, Ok, [], None, map, length, option_map};
 ghost use Rattle.c_tree.specs.ProgramOf as program;
-ghost use Rattle.c_tree.specs.Programs as p;
 ghost use Rattle.c_tree.specs.Syntax as x;
 ghost use Rattle.c_tree.specs.SyntaxOf.{expr_of, maybe_of, declaration_of, head_of, stmt_of};
 ghost use Rattle.c_types.specs.Declarations.{declaration_outline};

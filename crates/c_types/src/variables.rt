@@ -1,7 +1,6 @@
 //! What a declarator declares.
 ghost use Rattle.std.specs.Prelude.{◌≡◌, ◌<◌, ◌^◌, IfSome};
 ghost use Rattle.c_tree.specs.SyntaxOf.{declarator_of};
-ghost use Rattle.c_types.specs.Calls as calls;
 ghost use Rattle.c_types.specs.Declarations as declarations;
 
 use crate::constants::array_length;
@@ -71,25 +70,5 @@ pub fn object_words(base: Base, d: &Declarator) -> Option<u64>
             _ => Some(u64::from(elements)),
         },
         None => None,
-    }
-}
-
-// The element of the pointer that a malloc is for, where it has a size.
-fn sized(base: Base) -> Option<Base>
-    ensures { result ≡ calls.sized base }
-{
-    match base {
-        Base::Int | Base::Long => Some(base),
-        _ => None,
-    }
-}
-
-/// The element of the pointer that a malloc on the right side is for, where the left side has this type.
-pub fn wanted_by(kind: Kind) -> Option<Base>
-    ensures { result ≡ calls.wanted_by kind }
-{
-    match kind {
-        Kind::Pointer(element) => sized(element),
-        _ => None,
     }
 }
