@@ -81,6 +81,8 @@ fn each_refused_directive_at_its_hash(rt: HostRuntime) -> Result<(), Fail> {
         ("#define A", 1, 1),
         ("#define A B", 1, 1),
         ("#define A 4 x", 1, 1),
+        ("#define A 4x", 1, 1),
+        ("#define A 9223372036854775808", 1, 1),
         ("#define A(4)", 1, 1),
         ("  #define A 08", 1, 3),
         ("# define A 4", 1, 1),

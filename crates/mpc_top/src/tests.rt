@@ -3,7 +3,7 @@ mod runs;
 mod typing;
 
 use crate::{Top, mpc_serial};
-use mpc_base::{Answer, Entry, MemFiles, MemSink, Memory, Out, Word};
+use mpc_base::{Answer, MemFiles, MemSink, Memory, Out, Word};
 use std::alloc::Global;
 use std::collections::BTreeMap;
 use std::test::Fail;
@@ -238,6 +238,7 @@ fn refused_sources_say_why_and_where(rt: HostRuntime) -> Result<(), Fail> {
             "int main(void){ return 0@; }",
             "mpc: source: line 1, column 25: lex\n",
         ),
+        ("int x = ; @\n", "mpc: source: line 1, column 11: lex\n"),
         (
             "int x; int main(void){ return 0; } @",
             "mpc: source: line 1, column 36: lex\n",

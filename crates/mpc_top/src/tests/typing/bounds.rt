@@ -32,9 +32,6 @@ fn limits_are_kept_to_the_last(rt: HostRuntime) -> Result<(), Fail> {
     assert_eq!(rt; answered(alloc, most.as_str())?, Verdict::Accepted(1, 1, 1));
     let more = repeated(alloc, SHARED, BARRIER, 257, end)?;
     assert_eq!(rt; answered(alloc, more.as_str())?, Verdict::Rule(33, 260));
-    let main = "int main(void) { return 0; }";
-    let most = repeated(alloc, "int f(int a);\n", "static int x;\n", 0, main)?;
-    assert_eq!(rt; answered(alloc, most.as_str())?, Verdict::Accepted(1, 0, 0));
     let blocks = "{ static int x; }\n";
     let most = repeated(alloc, "int main(void) {\n", blocks, 4096, end)?;
     assert_eq!(rt;
@@ -43,5 +40,7 @@ fn limits_are_kept_to_the_last(rt: HostRuntime) -> Result<(), Fail> {
     );
     let more = repeated(alloc, "int main(void) {\n", blocks, 4097, end)?;
     assert_eq!(rt; answered(alloc, more.as_str())?, Verdict::Rule(5, 4098));
+    let more = repeated(alloc, "int a, b;\nint main(void) {\n", blocks, 4095, end)?;
+    assert_eq!(rt; answered(alloc, more.as_str())?, Verdict::Rule(5, 4097));
     Ok(())
 }

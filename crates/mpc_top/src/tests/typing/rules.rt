@@ -4,7 +4,7 @@ use super::{Verdict, answered};
 use std::test::*;
 
 // For each rule sources that break it, with the line, and sources that come close and do not.
-const SOURCES: [(&str, Verdict); 126] = [
+const SOURCES: [(&str, Verdict); 128] = [
     // Rule 1: a proper main is defined.
     ("int f(void) { return 0; }", Verdict::Rule(1, 1)),
     ("\n\nlong main(void) { return 0; }", Verdict::Rule(1, 1)),
@@ -34,6 +34,10 @@ const SOURCES: [(&str, Verdict); 126] = [
     ),
     (
         "int f(int a);\nint f(long a) { return 0; }\nint main(void) { return 0; }",
+        Verdict::Rule(2, 2),
+    ),
+    (
+        "int f(int a);\nstatic\nint f(long a) { return 0; }\nint main(void) { return 0; }",
         Verdict::Rule(2, 2),
     ),
     (
@@ -417,6 +421,10 @@ const SOURCES: [(&str, Verdict); 126] = [
     (
         "int main(void) { int *p; p = (long *)malloc(8); return 0; }",
         Verdict::Rule(15, 1),
+    ),
+    (
+        "void f(MPI_Request q[]) {\n q = (int *)malloc(8); }\nint main(void) { return 0; }",
+        Verdict::Rule(15, 2),
     ),
     (
         "int main(void) { long l; int i; int *p; MPI_Comm c; i = 1; l = i; i = l; p = NULL; c = MPI_COMM_WORLD; (i) = 2; *p = 1; p[0] = 1; return 0; }",

@@ -4,7 +4,7 @@ use super::{Verdict, answered};
 use std::test::*;
 
 // As in the other table of rules.
-const SOURCES: [(&str, Verdict); 93] = [
+const SOURCES: [(&str, Verdict); 95] = [
     // Rule 20: arguments agree with parameters.
     (
         "int f(int a) { return a; }\nint main(void) {\n return f(); }",
@@ -146,7 +146,16 @@ const SOURCES: [(&str, Verdict); 93] = [
         "int main(void) { int *p; long *q = (long *)malloc(8L); p = malloc(4); free(p); free(NULL); p = (malloc(4)); free(q); return 0; }",
         Verdict::Accepted(1, 0, 0),
     ),
+    // Such a parameter is a pointer to elements without a size.
+    (
+        "void f(MPI_Request q[]) {\n q = malloc(8); }\nint main(void) { return 0; }",
+        Verdict::Rule(25, 2),
+    ),
     // Rule 26: the arguments of MPI functions, and texts.
+    (
+        "int main(void) { int a;\n MPI_Send(&a, 1, MPI_DOUBLE, 0, 0, MPI_COMM_WORLD); return 0; }",
+        Verdict::Rule(26, 2),
+    ),
     (
         "int main(void) { MPI_Barrier(); return 0; }",
         Verdict::Rule(26, 1),
