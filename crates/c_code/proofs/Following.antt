@@ -1,16 +1,16 @@
 -- More steps change nothing, and what a machine has come to demands what the code demands.
-use Rattle.std.proofs.Common.{◌≡◌, ℕ, zero, suc, ◌+◌, Bool, true, false, cond, List, [], ◌∷◌, ◌++◌, Option, Some, None, refl, sym, ap, ◌∙◌, subst, arith, append_assoc}
+use Rattle.std.proofs.Common.{◌≡◌, ℕ, zero, suc, ◌+◌, Bool, true, false, cond, List, [], ◌∷◌, ◌++◌, Some, refl, sym, ap, ◌∙◌, subst, arith, append_assoc}
 use Rattle.std.specs.Prelude.{slice_get}
 use Rattle.std.proofs.lemmas.List.{append-nil}
 use Rattle.mpc_base.specs.declared.calls.Call.{Call}
 use Rattle.mpc_base.specs.declared.answers.Answer.{Answer}
 use Rattle.c_tree.specs.Asking.{Next, Misfit, fits}
 use Rattle.c_tree.specs.Asking as asking
-use Rattle.c_tree.specs.Scripts.{over, ends_run}
+use Rattle.c_tree.specs.Scripts.{ends_run}
 use Rattle.c_code.specs.declared.code.Entry.{Entry}
 use Rattle.c_code.specs.FlatCode.{FlatCode}
 use Rattle.c_code.specs.Machine.{Mach, Stepped, Moves, Asks, Sticks, Behind, Goes, Ends, step, resume}
-use Rattle.c_code.specs.Demands.{demanded, behind, stepped, exec, Reaches, Demands, begins, turn_limit}
+use Rattle.c_code.specs.Demands.{behind, stepped, exec, Reaches, Demands, begins, turn_limit}
 use Rattle.c_code.specs.Following.{Follows, AsksNow, NeverSticks}
 
 module _ (code : FlatCode) where

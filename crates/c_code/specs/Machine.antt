@@ -1,5 +1,5 @@
 -- What each instruction does by itself: it leads to another state, or it wants a call.
-use Rattle.std.specs.Prelude.{ℕ, zero, suc, ◌+◌, ◌-◌, ℤ, pos, negsuc, Bool, true, false, not, cond, List, [], ◌∷◌, length, take, drop, reverse, replicate, Option, Some, None, Result, Ok, Err, nat_lt, slice_get, slice_set, slice_index_or}
+use Rattle.std.specs.Prelude.{ℕ, zero, suc, ◌+◌, ◌-◌, ℤ, pos, negsuc, true, false, not, cond, List, [], ◌∷◌, length, take, drop, reverse, Option, Some, None, Result, Ok, Err, nat_lt, slice_get, slice_set, slice_index_or}
 use Rattle.mpc_base.specs.declared.values.Word.{Word}
 use Rattle.mpc_base.specs.declared.values.Word.TheVariants.{Undef, Int, Null, Ptr, Comm, Req}
 use Rattle.mpc_base.specs.declared.calls.Call.{Call}

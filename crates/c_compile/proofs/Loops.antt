@@ -15,7 +15,7 @@ use Rattle.c_tree.specs.Execution.{Exit, Normal, then, behind_body, test_of, ste
 use Rattle.c_code.specs.declared.instr.Instr.{Instr}
 use Rattle.c_code.specs.declared.instr.Instr.TheVariants as i
 use Rattle.c_code.specs.FlatCode.{FlatCode}
-use Rattle.c_code.specs.Machine.{Frame, Mach, Behind, Goes, Moves, resume_of, way_next}
+use Rattle.c_code.specs.Machine.{Frame, Goes, resume_of, way_next}
 use Rattle.c_code.specs.Machine as machine
 use Rattle.c_compile.specs.Compiled.{expr_code, Place, before, inside, body_of, test_code, step_code, loop_code, do_code, single_code, return_code, no_ending, item_code, stmt_code, items_code}
 use Rattle.c_compile.proofs.Steps.{at, HasAt, has_front, has_back, moved_to, asks_ok}

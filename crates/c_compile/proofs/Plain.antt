@@ -18,7 +18,7 @@ use Rattle.c_tree.specs.declared.program.Update.TheVariants as update
 use Rattle.c_tree.specs.Programs as p
 use Rattle.c_tree.specs.Words.{holds}
 use Rattle.c_tree.specs.Evaluation.{scalar_of}
-use Rattle.c_tree.specs.Asking.{Next, Misfit, fits}
+use Rattle.c_tree.specs.Asking.{Misfit, fits}
 use Rattle.c_tree.specs.Asking as asking
 use Rattle.c_tree.specs.Scripts.{over, ends_run}
 use Rattle.c_tree.specs.Next.{next_in}

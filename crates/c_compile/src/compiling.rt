@@ -1,7 +1,7 @@
 //! From a typed program to its code.
 ghost use Rattle.std.specs.Prelude.{◌≡◌, ◌++◌, [], length, map, reverse, slice_get, OnOk, IfOk};
 ghost use Rattle.c_tree.specs.ProgramOf.{function_of, program_of};
-ghost use Rattle.c_compile.specs.Compiled.{function_code, functions_code, entries_from, params_of};
+ghost use Rattle.c_compile.specs.Compiled.{functions_code, entries_from, params_of};
 ghost use Rattle.c_compile.specs.Correct.{compiled, Behaves, HasMain};
 ghost use Rattle.c_compile.specs.Standing.{lengths_of};
 

@@ -3,7 +3,7 @@ ghost use Rattle.std.specs.Prelude.{◌≡◌, ◌++◌, ◌∷◌, [], ℕ, suc
 ghost use Rattle.c_code.specs.declared.instr.Instr.{Instr};
 ghost use Rattle.c_tree.specs.ProgramOf.{function_of};
 ghost use Rattle.c_compile.specs.Compiled.{Place, params_code, function_code};
-ghost use Rattle.c_compile.specs.Standing.{Standing, Fits, place_of, opened_place, in_memory, with_opened, closing};
+ghost use Rattle.c_compile.specs.Standing.{Standing, opened_place, in_memory, with_opened, closing};
 
 use crate::emitter::Emitter;
 use crate::statement_code::put_items;

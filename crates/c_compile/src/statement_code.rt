@@ -1,7 +1,7 @@
 //! The code of statements.
-ghost use Rattle.std.specs.Prelude.{◌≡◌, ◌+◌, ◌≤◌, ◌<◌, ℕ, List, false, MatchOption, ◌∷◌, [], ◌++◌, length, reverse, drop, ◌-◌, Option, OnOk, IfOk};
-ghost use Rattle.c_tree.specs.ProgramOf.{expr_of, maybe_of, stmt_of, stmts_of};
-ghost use Rattle.c_compile.specs.Compiled.{expr_code, test_code, step_code, return_code, drops, loop_code, do_code, Place, body_of, item_code, stmt_code, items_code};
+ghost use Rattle.std.specs.Prelude.{◌≡◌, ◌+◌, ◌≤◌, ◌<◌, ℕ, List, false, MatchOption, ◌∷◌, [], ◌++◌, length, reverse, drop, ◌-◌, Option, OnOk};
+ghost use Rattle.c_tree.specs.ProgramOf.{maybe_of, stmt_of, stmts_of};
+ghost use Rattle.c_compile.specs.Compiled.{test_code, step_code, return_code, drops, loop_code, do_code, Place, body_of, item_code, stmt_code, items_code};
 ghost use Rattle.c_code.specs.declared.instr.Instr.TheVariants as i;
 ghost use Rattle.c_code.specs.declared.instr.Instr.{Instr};
 ghost use Rattle.c_tree.specs.Programs as p;

@@ -1,5 +1,5 @@
 //! Where a statement stands, as its code is made.
-ghost use Rattle.std.specs.Prelude.{◌≡◌, ◌≤◌, ℕ, List, ◌++◌, ◌∷◌, [], OnOk, length, drop};
+ghost use Rattle.std.specs.Prelude.{◌≡◌, ◌≤◌, ℕ, ◌++◌, ◌∷◌, [], OnOk, length, drop};
 ghost use Rattle.c_compile.specs.Standing.{Standing, with_opened};
 
 use mpc_base::Memory;

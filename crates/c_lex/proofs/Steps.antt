@@ -11,7 +11,7 @@ use Rattle.c_lex.specs.declared.pieces.Found.{Found}
 use Rattle.c_lex.specs.declared.pieces.Found.TheVariants.{Feed, Blank, Comment, Include, Define, Pragma, Taken}
 use Rattle.c_lex.specs.Defined.{with_name}
 use Rattle.c_lex.specs.Places.{behind, behind_byte}
-use Rattle.c_lex.specs.Lexed.{State, beginning, Takes, NoPiece, Pieces, Refuses, behind_piece, fresh_behind, known_behind, given, token_at}
+use Rattle.c_lex.specs.Lexed.{State, beginning, Takes, Pieces, Refuses, behind_piece, fresh_behind, known_behind, given, token_at}
 use Rattle.c_lex.specs.Lexed as lexed
 use Rattle.c_lex.specs.Front.{piece_at}
 use Rattle.c_lex.specs.Stops.{kept, known_from, IsWithin}

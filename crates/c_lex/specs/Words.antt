@@ -1,4 +1,4 @@
--- Words of a source: the keys, what a number spells, what a text holds, the signs.
+-- Words of a source: the keys, what a number spells, what a text holds.
 use Rattle.std.specs.Prelude.{◌≡◌, ℕ, suc, ◌+◌, ◌-◌, ◌*◌, ◌≤◌, Bool, true, false, ◌||◌, cond, List, [], ◌∷◌, ◌++◌, nat_eq, nat_le, nat_lt, codes, pos, ◌⊎◌}
 use Rattle.std.specs.List.{list_any}
 use Rattle.std.specs.Str.{bytes_eq}

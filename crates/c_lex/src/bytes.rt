@@ -1,6 +1,5 @@
 //! The kinds of bytes of a source, and runs of them.
 ghost use Rattle.std.specs.Prelude.{◌≡◌, ◌+◌, ◌≤◌, length, drop};
-ghost use Rattle.std.specs.List.{list_any};
 ghost use Rattle.c_lex.specs.Bytes.{is_gap as gap, is_letter as letter, is_digit as digit, is_hex as hex, is_name_byte as name_byte, is_plain as plain, is_escape as escape};
 ghost use Rattle.c_lex.specs.Classes.{passes};
 ghost use Rattle.c_lex.specs.Signs.{is_in};

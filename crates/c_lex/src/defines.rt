@@ -1,5 +1,5 @@
 //! The names that a source has defined, with their numbers.
-ghost use Rattle.std.specs.Prelude.{◌≡◌, IfOk, OnOk, IfErr};
+ghost use Rattle.std.specs.Prelude.{◌≡◌, OnOk};
 ghost use Rattle.c_lex.specs.Defined.{empty, with_name, meanings};
 
 use crate::tokens::Literal;

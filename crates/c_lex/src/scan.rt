@@ -1,5 +1,5 @@
 //! The tokens of a source.
-ghost use Rattle.std.specs.Prelude.{◌≡◌, ◌+◌, ◌≤◌, List, length, IfOk, IfErr, IfSome, OnOk, MatchResult};
+ghost use Rattle.std.specs.Prelude.{◌≡◌, ◌+◌, ◌≤◌, List, length, IfOk, IfErr, OnOk, MatchResult};
 ghost use Rattle.c_lex.specs.declared.tokens.Token.{Token};
 ghost use Rattle.c_lex.specs.Defined.{meanings};
 ghost use Rattle.c_lex.specs.Lexed.{fresh_behind as fresh_after, Lexed, RefusedAt};

@@ -24,10 +24,10 @@ use Rattle.c_tree.specs.MpiScripts.{steps_of, each_of, last_of}
 use Rattle.c_tree.specs.Words.{holds, pointer_of}
 use Rattle.c_tree.specs.Asking.{Next, Asks, Over, Misfit, fits, State, Step, ◌>>=◌, pure, asked, ask, fault, get, set, tick, tick_from}
 use Rattle.c_tree.specs.Scripts.{Found, nothing_found, Wanted, Wants, Skips, Breaks, wanted, found_behind, number_at, ends_run, over, take_step, take_steps, take_each, take_requests, asks_of}
-use Rattle.c_tree.specs.Evaluation.{Calls, known, value_of_local, number_or_fault, word_or_fault, load, store, updated, narrowed, offset, if_holds, applied, eval, eval_all}
-use Rattle.c_tree.specs.Execution.{Exit, Normal, Broken, Continued, Returned, then, behind_body, drop_line, object_of, release, make, test_of, step_of, loop, loop_from, do_loop, do_loop_from, in_way, way_of, returned, item, exec, run, at_end, run_body, with_params, apart, slots_of, exit_of, called}
+use Rattle.c_tree.specs.Evaluation.{Calls, known, value_of_local, number_or_fault, word_or_fault, load, store, updated, applied, eval, eval_all}
+use Rattle.c_tree.specs.Execution.{Exit, Normal, Broken, Continued, Returned, then, behind_body, drop_line, object_of, release, make, test_of, step_of, loop, loop_from, do_loop, do_loop_from, in_way, way_of, returned, item, exec, run, at_end, run_body, with_params, slots_of, exit_of, called}
 use Rattle.c_tree.specs.Next.{calls_of, arguments_of_main, finish, finish_main, next_in, next_of}
-use Rattle.c_tree.specs.NextLaws.{DoesNotFit, IsAsked, NextLaws}
+use Rattle.c_tree.specs.NextLaws.{NextLaws}
 
 -- A call is asked behind no answer; an answer of another kind is a misfit, and behind one of its kind it is so again.
 pub record AsksFirst (again : (List Answer → Next) → Type 0) (g : List Answer → Next) : Type 0 where

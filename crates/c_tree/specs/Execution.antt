@@ -74,7 +74,8 @@ step_of calls line None = pure (Int (pos 0))
 step_of calls line (Some step) = eval calls line step
 
 -- A loop with its condition before its body and a step behind it, in which at most so many bodies can begin: each
--- counts a turn.
+-- counts a turn. The number only bounds the recursion: it begins with the turns that are left, so it never ends
+-- before they do.
 abbrev pub loop : Step Word → Step Exit → Step Word → ℕ → ℕ → Step Exit
 loop test body step line zero = do
   word ← test

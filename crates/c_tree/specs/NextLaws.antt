@@ -1,9 +1,9 @@
 -- Laws of what a task asks next.
-use Rattle.std.specs.Prelude.{◌≡◌, ◌⊎◌, Bool, false, List, [], ◌∷◌, ◌++◌, ℕ}
+use Rattle.std.specs.Prelude.{◌≡◌, ◌⊎◌, false, List, [], ◌∷◌, ◌++◌, ℕ}
 use Rattle.mpc_base.specs.declared.calls.Call.{Call}
 use Rattle.mpc_base.specs.declared.answers.Answer.{Answer}
 use Rattle.c_tree.specs.Programs.{Program}
-use Rattle.c_tree.specs.Asking.{Next, Asks, Over, Misfit, fits}
+use Rattle.c_tree.specs.Asking.{Asks, Over, Misfit, fits}
 use Rattle.c_tree.specs.Next.{next_of}
 
 -- An answer among these is none that the call asked before it may have, or stands behind the end.

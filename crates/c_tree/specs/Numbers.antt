@@ -39,12 +39,3 @@ number_of w Null = pos 0
 number_of w (Ptr obj at) = pos 0
 number_of w (Comm comm) = pos 0
 number_of w (Req req) = pos 0
-
--- a word read where an int is due
-abbrev pub int_of : Word → ℤ
-int_of (Int z) = int_wrap w32 z
-int_of Undef = pos 0
-int_of Null = pos 0
-int_of (Ptr obj at) = pos 0
-int_of (Comm comm) = pos 0
-int_of (Req req) = pos 0

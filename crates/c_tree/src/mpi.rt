@@ -55,7 +55,7 @@ pub enum Argument {
     RequestPlace,
     /// The words of a message, of the datatype that follows it.
     Buffer,
-    /// MPI_INT or MPI_LONG, for the buffers before it.
+    /// MPI_INT or MPI_LONG, for the buffers before it, or for what is counted.
     Datatype,
     /// The operation of a fold.
     Operation,

@@ -3,12 +3,12 @@
 //!
 //! A local variable has a slot in its function. The task keeps the local's value there, or, where
 //! the local is in memory, the pointer to its object.
-ghost use Rattle.std.specs.Prelude.{◌≡◌, ◌<◌, length, slice_index};
+ghost use Rattle.std.specs.Prelude.{◌≡◌, ◌<◌, length};
 
 use crate::formats::Format;
 use crate::mpi::MpiFunction;
 use crate::variables::Globals;
-use mpc_base::{Datatype, Level, Op, StaticVar, Word};
+use mpc_base::{Datatype, Level, Op, Word};
 use std::marker::Model;
 
 /// The type of numbers: int of 32 bits, or long of 64.
@@ -286,6 +286,6 @@ pub struct Program {
     /// The number of main.
     pub main: u32,
     pub constructs: Constructs,
-    /// The line of the source's last token, or 1 where it has none.
+    /// The line of the source's last token that is no foreign pragma, or 1 where there is none.
     pub lines: u32,
 }

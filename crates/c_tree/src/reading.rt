@@ -41,7 +41,7 @@ impl Program {
         self.constructs.as_slice()[number as usize]
     }
 
-    /// The line of the source's last token, or 1 where it has none.
+    /// The line of the source's last token that is no foreign pragma, or 1 where there is none.
     pub fn line_count(&self) -> u32
         ensures { result ≡ self.now.lines }
     {

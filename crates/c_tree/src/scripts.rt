@@ -1,5 +1,5 @@
 //! What each MPI function asks, in order: one script a function, as data that the meaning of
-//! programs and the compiler both read.
+//! programs and the machine that runs their code both read.
 //!
 //! A script has three parts: steps that are taken once, steps that are taken for each request of a
 //! list, and steps behind these. A number names an argument of the function, counted from 0 among

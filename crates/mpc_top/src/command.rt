@@ -1,5 +1,5 @@
 //! The words of the command.
-ghost use Rattle.std.specs.Prelude.{◌≡◌, map, string_bytes, MatchOption, IfSome, IfNone, true};
+ghost use Rattle.std.specs.Prelude.{◌≡◌, map, string_bytes, MatchOption, true};
 ghost use Rattle.mpc_top.specs.Command.{NamesSource, NamesNone, begins_with_dash, mode_word};
 
 /// What is done with the source.

@@ -1,11 +1,11 @@
 //! The way of a source to its typed program, or to why it is refused.
-ghost use Rattle.std.specs.Prelude.{◌≡◌, ◌≤◌, length, IfOk, IfErr, Some, string_bytes};
+ghost use Rattle.std.specs.Prelude.{◌≡◌, ◌≤◌, length, IfOk, IfErr, string_bytes};
 ghost use Rattle.c_tree.specs.ProgramOf.{program_of};
 ghost use Rattle.mpc_top.specs.Sources.{Accepted, RefusesContent, refusal_line, accepted_line, counts_line, shared_of};
 ghost use Rattle.mpc_top.specs.declared.command.Mode.{Mode};
 
 use crate::command::Mode;
-use c_lex::{LexRefusal, Token, lex};
+use c_lex::{LexRefusal, lex};
 use c_parse::{ParseRefusal, parse};
 use c_tree::program::Program;
 use c_tree::syntax::Tree;

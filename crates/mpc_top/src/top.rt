@@ -1,7 +1,7 @@
 //! The top call: from the command's words to the text that is written and the status.
-ghost use Rattle.std.specs.Prelude.{◌≡◌, ◌≢◌, ◌≤◌, ◌↔◌, ℕ, List, Option, length, map, string_bytes, None, Some, OnOk, IfOk, OnErr, IfErr, IfSome, IsSome, ◌⊎◌, true};
-ghost use Rattle.mpc_base.specs.Causes.{Rose, HasCause};
-ghost use Rattle.mpc_base.specs.Told.{Took, TookPrefix, content_of};
+ghost use Rattle.std.specs.Prelude.{◌≡◌, ◌≢◌, ◌≤◌, ◌↔◌, ℕ, Option, length, map, string_bytes, None, Some, IfOk, IfErr, IfSome, IsSome, ◌⊎◌, true};
+ghost use Rattle.mpc_base.specs.Causes.{Rose};
+ghost use Rattle.mpc_base.specs.Told.{content_of};
 ghost use Rattle.c_tree.specs.ProgramOf.{program_of};
 ghost use Rattle.c_compile.specs.Correct.{HasMain};
 ghost use Rattle.c_compile.specs.Plain.{is_plain};

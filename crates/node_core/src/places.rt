@@ -1,13 +1,12 @@
-ghost use Rattle.std.specs.Prelude.{◌≡◌, ◌<◌, ◌≤◌, ◌+◌, ◌-◌, ◌^◌, ◌∷◌, ◌++◌, [], List, length, map, replicate, IfOk, IfSome, OnErr, MatchOption, Option, Some, None, slice_get, slice_set};
+ghost use Rattle.std.specs.Prelude.{◌≡◌, ◌<◌, ◌≤◌, ◌+◌, ◌-◌, ◌^◌, ◌∷◌, ◌++◌, [], length, map, replicate, IfOk, OnErr, MatchOption, Option, Some, None, slice_get, slice_set};
 ghost use Rattle.std.specs.Option.{option_copied};
 ghost use Rattle.mpc_base.specs.declared.values.Word.TheVariants.{Undef};
 ghost use Rattle.mpc_base.specs.declared.owners.Owner.TheVariants.{Task};
 ghost use Rattle.mpc_base.specs.declared.values.Obj.TheVariants.{Dyn};
-ghost use Rattle.memory_model.specs.Memory.{object_of, with_object, without, Object as Described};
-ghost use Rattle.memory_model.specs.Access.{with_word, live_words, length_of};
+ghost use Rattle.memory_model.specs.Memory.{object_of, with_object, without};
+ghost use Rattle.memory_model.specs.Access.{with_word, live_words};
 ghost use Rattle.run_model.specs.World.{first_memory};
 ghost use Rattle.run_model.specs.Go.{quota};
-ghost use Rattle.node_core.specs.Placed.{held_words};
 ghost use Rattle.node_core.specs.Slots.{first_object, slot_at};
 
 use crate::objects::Object;

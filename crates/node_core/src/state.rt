@@ -1,5 +1,4 @@
 ghost use Rattle.std.specs.Prelude.{◌≡◌, ◌<◌, ◌≤◌, ◌-◌, ◌^◌, [], List, IfOk, OnErr};
-ghost use Rattle.std.specs.FinMap as map;
 ghost use Rattle.mpc_base.specs.CallTable.{call_number};
 ghost use Rattle.mpc_base.specs.declared.answers.Answer.{Answer};
 ghost use Rattle.run_model.specs.World.{first_memory, first_task};

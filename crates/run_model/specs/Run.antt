@@ -89,7 +89,8 @@ is_zero_exit (rank.Exit code) = int_eq code (pos 0)
 is_zero_exit rank.Stopped = false
 is_zero_exit (rank.Fault fault line) = false
 
--- The exit status of a run: 0 where it finished and every exit code is 0, else 1; 2 for a fault.
+-- The exit status of a run that has ended: 0 where it finished and every exit code is 0, else 1; 2 for a fault. A run
+-- that goes on has none, and 0 stands for it.
 abbrev pub status_of : End → List RankEnd → ℕ
 status_of end.Going ranks = 0
 status_of end.Finished ranks = if list_all (λ rank_end. is_zero_exit rank_end.state) ranks then 0 else 1

@@ -9,11 +9,11 @@ ghost use Rattle.c_tree.specs.Execution.{object_of};
 ghost use Rattle.c_code.specs.Machine.{Asks, on_top, arguments_on};
 ghost use Rattle.task_vm.specs.Seen.{Shows};
 
-use crate::machine::{Machine, Step, breaks};
+use crate::machine::{Machine, Step};
 use crate::printing::printed;
 use crate::words::{long_of, malloc_words, object_of, pointer_of};
 use c_code::Printed;
-use mpc_base::{Call, Memory, Word};
+use mpc_base::{Call, Memory};
 
 // Asks a call that has no more than its instruction.
 pub(crate) fn ask(call: &mut Call, asked: Call, line: u32) -> Step

@@ -4,7 +4,7 @@ ghost use Rattle.mpc_base.specs.declared.values.Word.TheVariants.{Undef};
 ghost use Rattle.c_tree.specs.Execution.{slots_of};
 
 use mpc_base::{Memory, Word};
-use std::alloc::{AllocError, Global};
+use std::alloc::Global;
 use std::marker::Model;
 
 /// Where a call goes on when it returns: the place in the code, where the caller's slots begin, and the

@@ -5,7 +5,7 @@ use crate::frames::Frames;
 use crate::scripts::Script;
 use crate::stack::Stack;
 use mpc_base::{Call, Fault, Memory, Word};
-use std::alloc::{AllocError, Global};
+use std::alloc::Global;
 use std::marker::Model;
 
 /// What a step does: the machine goes on, or it asks a call at a line, which is told beside; or it cannot

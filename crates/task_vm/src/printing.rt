@@ -6,7 +6,7 @@ use crate::words::long_of;
 use c_tree::formats::{Format, Piece};
 use itoa::Buffer;
 use mpc_base::{Memory, Text, Word};
-use std::alloc::{AllocError, Global};
+use std::alloc::Global;
 
 /// The bytes of a format with its numbers in decimal.
 pub(crate) fn printed(alloc: Global, format: &Format, numbers: &[Word]) -> Result<Text, Memory>

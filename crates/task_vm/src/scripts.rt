@@ -16,7 +16,7 @@ use c_tree::mpi::MpiFunction;
 use c_tree::program::MpiCall;
 use c_tree::scripts::ScriptStep;
 use mpc_base::{Answer, Call, Fault, Memory, Status, Word};
-use std::alloc::{AllocError, Global};
+use std::alloc::Global;
 use std::marker::Model;
 
 /// The part of a script that is being taken; of the requests of a list so many are left behind the

@@ -2,7 +2,7 @@
 ghost use Rattle.std.specs.Prelude.{◌≡◌, ◌≤◌, [], ◌∷◌, length, drop, reverse, take, OnOk, IfSome, IfNone, MatchOption};
 
 use mpc_base::{Memory, Word};
-use std::alloc::{AllocError, Global};
+use std::alloc::Global;
 use std::marker::Model;
 
 /// A stack of words, seen as their list, the topmost first.

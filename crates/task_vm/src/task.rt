@@ -16,7 +16,7 @@ use crate::stack::Stack;
 use crate::states::{State, Want};
 use c_code::Code;
 use mpc_base::{Answer, Call, Memory, Word};
-use std::alloc::{AllocError, Global};
+use std::alloc::Global;
 use std::marker::Model;
 use std::sync::Arc;
 

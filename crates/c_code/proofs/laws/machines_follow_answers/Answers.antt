@@ -1,4 +1,4 @@
-use Rattle.c_code.proofs.Following.{demands_once, follows_begun, follows_moved, follows_answered, asks_demanded, follows_unstuck}
+use Rattle.c_code.proofs.Following.{demands_once, follows_moved, follows_answered, asks_demanded, follows_unstuck}
 use Rattle.c_code.proofs.laws.machines_follow_answers.Goals as goal
 
 pub returns-clause-once : goal.returns-clause-once

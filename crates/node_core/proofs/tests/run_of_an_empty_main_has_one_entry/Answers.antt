@@ -1,6 +1,4 @@
 use Rattle.std.proofs.Common.{◌≡◌, ◌∙◌, ap, [], pos}
-use Rattle.mpc_base.specs.declared.calls.Call.TheVariants.{Finish}
-use Rattle.c_tree.specs.Asking.{Asks}
 use Rattle.c_tree.specs.Next.{next_of}
 use Rattle.c_tree.specs.ProgramOf.{program_of}
 use Rattle.run_model.specs.Go.{answers_of}
