@@ -1,4 +1,4 @@
-/* A token goes round the ranks. Each adds its own rank to it. */
+/* A token goes round the ranks, of which there are two or more. Each adds its own rank to it. */
 #include <mpi.h>
 #include <stdio.h>
 
@@ -13,6 +13,8 @@ int main(int argc, char **argv) {
     MPI_Comm_size(MPI_COMM_WORLD, &size);
     next = (rank + 1) % size;
     before = (rank + size - 1) % size;
+    if (size < 2)
+        MPI_Abort(MPI_COMM_WORLD, 1);
     for (int turn = 0; turn < TURNS; turn++) {
         if (rank == 0) {
             MPI_Send(&token, 1, MPI_INT, next, TOKEN, MPI_COMM_WORLD);
