@@ -9,6 +9,7 @@ ghost use Rattle.task_vm.specs.Seen.{Shows};
 use crate::machine::{Machine, Step, breaks};
 use crate::words::int_of;
 use c_code::{Code, Entry};
+use c_tree::words::holds;
 use mpc_base::{Call, Fault, Memory};
 
 /// How many calls may wait for a function: 1,024 may be open.

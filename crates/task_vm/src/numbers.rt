@@ -14,6 +14,7 @@ use crate::machine::{Machine, Step, breaks};
 use crate::words::{elements, int_of, long_of, moved, number_of};
 use c_tree::arithmetic::{compare, complement, compute, negate, wrap};
 use c_tree::program::{Comparison, Operation, Update, Width};
+use c_tree::words::{holds, same_word, truth};
 use mpc_base::{Call, Fault, Word};
 
 // The new value of a variable, from the old one and the number on the right of a computing assignment.

@@ -11,6 +11,7 @@ use crate::{Task, Want};
 use c_code::{Code, Entry, Instr};
 use c_tree::formats::{Format, Piece};
 use c_tree::program::{Scalar, Width};
+use c_tree::words::{holds, same_word};
 use mpc_base::{Answer, Call, Fault, Obj, Text, Word};
 use std::alloc::{AllocError, Global};
 use std::sync::Arc;
