@@ -8,7 +8,7 @@ use Rattle.c_parse.specs.declared.symbols.Key.TheVariants as key
 use Rattle.c_parse.specs.declared.symbols.Mark.{Mark}
 use Rattle.c_parse.specs.declared.symbols.Mark.TheVariants as mark
 use Rattle.c_tree.specs.declared.syntax.Binary.TheVariants as binary
-use Rattle.c_parse.specs.Signs.{is_mark, is_key, is_name, same_mark, same_key, binary_of, prefix_of, assigns, base_of, is_star}
+use Rattle.c_parse.specs.Signs.{is_mark, is_key, is_name, same_mark, same_key, binary_of, prefix_of, assigns, base_of, is_star, is_equals}
 use Rattle.c_parse.specs.Grammar.{number_as, is_text, change_as}
 use Rattle.c_parse.proofs.Sets.{code, mark_code, key_code, is_in}
 

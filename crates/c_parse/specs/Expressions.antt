@@ -15,6 +15,7 @@ use Rattle.c_parse.specs.declared.grammar.Part.{Part}
 use Rattle.c_parse.specs.declared.grammar.Part.TheVariants as part
 use Rattle.c_parse.specs.Signs.{binary_of, prefix_of, prefixed, assigns, base_of, begins_base, is_number, is_star, is_mark, is_key}
 use Rattle.c_parse.specs.Symbols.{Sym}
+use Rattle.c_parse.specs.Grammar.{arguments_of}
 use Rattle.c_parse.specs.Reading.{Got, Reader, ◌>>=◌, ◌>>◌, pure, refuse, next, here, advance, bytes, class_at, sees, behind_if, eat, eat_key, expect, name, separated, repeat, within}
 
 -- ---- types

@@ -25,7 +25,7 @@ use Rattle.c_types.specs.declared.refusals.TypeRefusal.{TypeRefusal}
 use Rattle.c_types.specs.declared.shapes.CallShape.TheVariants as call
 use Rattle.c_types.specs.declared.shapes.Shape.TheVariants as shape
 use Rattle.c_types.specs.Answers.{Makes, MakesAll, called_by, row_fault, row_made}
-use Rattle.c_types.specs.Calls.{meaning, call_shape, own_shape, mpi_shape, prints_all, is_one_number, is_one_pointer, looked_at, Every, Expressions}
+use Rattle.c_types.specs.Calls.{meaning, call_shape, own_shape, mpi_shape, sized, prints_all, is_one_number, is_one_pointer, looked_at, Every, Expressions}
 use Rattle.c_types.specs.Env.{Env}
 use Rattle.c_types.specs.Expressions.{kind_of, kinds, givens, outline, argument_outline}
 use Rattle.c_types.specs.Nodes.{first_of, blame}
@@ -244,15 +244,15 @@ module _ (env : Env) (want : Option Base) where
         one_made (Some (decl.Known a_known.Printf)) made (printf_is d (sym ef ∙ fo)) (subst (Makes made) same (h (passed env (Own []) (exprs_of (drop 1 items))) ha))
 
     pub malloc_kind : (ks : List (Option Kind)) (goal : Option Kind) → f ≡ called.Malloc → ks ≡ kinds env (exprs_of items)
-        → goal ≡ kind (shape.Call (call.Malloc want (is_one_number ks))) → goal ≡ kind_of env want (expr_of e)
+        → goal ≡ kind (shape.Call (call.Malloc (sized want) (is_one_number ks))) → goal ≡ kind_of env want (expr_of e)
     malloc_kind ks goal fo ek h =
-        one_kind (Some (decl.Known a_known.Malloc)) goal (malloc_is d (sym ef ∙ fo)) (h ∙ ap (λ l. kind (shape.Call (call.Malloc want (is_one_number l)))) ek)
+        one_kind (Some (decl.Known a_known.Malloc)) goal (malloc_is d (sym ef ∙ fo)) (h ∙ ap (λ l. kind (shape.Call (call.Malloc (sized want) (is_one_number l)))) ek)
 
     pub malloc_first : (ks : List (Option Kind)) (inner goal : Option TypeRefusal) → f ≡ called.Malloc → ks ≡ kinds env (exprs_of items) → inner ≡ first_of (argument_outline Every env (exprs_of items))
-        → goal ≡ blame (rule (shape.Call (call.Malloc want (is_one_number ks)))) at.line inner → goal ≡ first_of (outline env want (expr_of e))
+        → goal ≡ blame (rule (shape.Call (call.Malloc (sized want) (is_one_number ks)))) at.line inner → goal ≡ first_of (outline env want (expr_of e))
     malloc_first ks inner goal fo ek ein h =
         one_first (Some (decl.Known a_known.Malloc)) goal (malloc_is d (sym ef ∙ fo))
-        (h ∙ ap (λ l. blame (rule (shape.Call (call.Malloc want (is_one_number l)))) at.line inner) ek ∙ ap (blame (rule (shape.Call (call.Malloc want (is_one_number (kinds env (exprs_of items)))))) at.line) ein)
+        (h ∙ ap (λ l. blame (rule (shape.Call (call.Malloc (sized want) (is_one_number l)))) at.line inner) ek ∙ ap (blame (rule (shape.Call (call.Malloc (sized want) (is_one_number (kinds env (exprs_of items)))))) at.line) ein)
 
     pub malloc_made : (all : Result (Vec Expr Global) TypeRefusal) (made : Result Expr TypeRefusal) → f ≡ called.Malloc → MakesAll all (passed env (Own []) (exprs_of items))
         → ((es : p.Exprs) → MakesAll all es → Makes made (p.Malloc (element_size want) (first_of_all es))) → Makes made (typed env want (expr_of e))
