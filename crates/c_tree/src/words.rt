@@ -4,7 +4,8 @@ ghost use Rattle.c_tree.specs.Words as words;
 
 use mpc_base::{Obj, Word};
 
-/// Whether a number or pointer holds as a condition: it is neither 0 nor NULL.
+/// Whether a number or pointer holds as a condition: it is neither 0 nor NULL (C99 6.8.4.1); a word of another kind
+/// does not.
 pub fn holds(word: Word) -> bool
     ensures { result ≡ words.holds word }
 {
@@ -15,7 +16,7 @@ pub fn holds(word: Word) -> bool
     }
 }
 
-/// 1 where a condition holds, and else 0.
+/// 1 where a condition holds, and else 0: the result of a comparison, `!`, `&&` and `||` (C99 6.5.8).
 pub fn truth(condition: bool) -> Word
     ensures { result ≡ words.truth condition }
 {
@@ -36,7 +37,7 @@ fn same_object(left: Obj, right: Obj) -> bool
     }
 }
 
-/// Whether two words are the same.
+/// Whether two words are the same, as `==` asks (C99 6.5.9): words of two kinds differ, and unset words are alike.
 pub fn same_word(left: Word, right: Word) -> bool
     ensures { result ≡ words.same_word left right }
 {

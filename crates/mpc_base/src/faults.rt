@@ -31,11 +31,12 @@ pub enum Fault {
     NoFinalize,
     /// MPI_Finalize with an active request.
     LeakedRequest,
-    /// A root or a peer that is not in the group.
+    /// A root outside the group; a peer outside it that is neither MPI_PROC_NULL nor, in a receive or probe,
+    /// MPI_ANY_SOURCE.
     BadRank,
-    /// A tag outside 0 to 32,767.
+    /// A tag outside 0 to 32,767 that is not MPI_ANY_TAG in a receive or probe.
     BadTag,
-    /// A negative count or colour.
+    /// A negative count, or a negative colour that is not MPI_UNDEFINED.
     BadCount,
     /// No living communicator of the task, or a free of MPI_COMM_WORLD.
     BadComm,
@@ -45,7 +46,7 @@ pub enum Fault {
     Truncate,
     /// A message of another datatype than its receive.
     Mistyped,
-    /// Members of a collective call that differ in what they ask.
+    /// Members of a collective call that differ in what they ask, or one member whose two counts differ.
     CollMismatch,
     /// A function call deeper than 1,024.
     Depth,
