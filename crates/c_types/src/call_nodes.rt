@@ -117,7 +117,11 @@ pub fn own_call(names: &Names, place: usize, line: u32, given: Every) -> Looked
         Some(sig) => {
             let agrees = all_agree(sig.params.as_slice(), &given.kinds);
             applied(
-                Shape::Call(CallShape::Own(sig.number.is_some(), agrees, sig.returns)),
+                Shape::Call(CallShape::Own {
+                    is_defined: sig.number.is_some(),
+                    agrees,
+                    returns: sig.returns,
+                }),
                 line,
                 Callee::Function(sig.number.unwrap_or(0)),
                 given.made,
@@ -174,7 +178,10 @@ pub fn malloc_call(
     ensures made { IfOk result (λ r. (es : program.Exprs) → MakesAll given.made es → Makes r.made
         (program.Malloc (typed.element_size want) (typed.first_of_all es))) }
 {
-    let shape = Shape::Call(CallShape::Malloc(sized(want), is_one_number(&given.kinds)));
+    let shape = Shape::Call(CallShape::Malloc {
+        element: sized(want),
+        has_number: is_one_number(&given.kinds),
+    });
     let kind = kind(shape);
     match blamed(shape, line, given.made) {
         Ok(arguments) => {
@@ -272,14 +279,14 @@ fn mpi_shape(
     ensures { result ≡ calls.mpi_shape function names.now.scopes (syntax.exprs_of arguments.now) givens.now }
 {
     match function {
-        MpiFunction::Init => Shape::Call(CallShape::Init(
-            are_two(arguments),
-            may_start(names, arguments),
-        )),
-        _ => Shape::Call(CallShape::Mpi(
-            all_meet(function.arguments(), givens),
-            datatypes_agree(function, function.arguments(), givens),
-        )),
+        MpiFunction::Init => Shape::Call(CallShape::Init {
+            has_two: are_two(arguments),
+            may_stand: may_start(names, arguments),
+        }),
+        _ => Shape::Call(CallShape::Mpi {
+            meets: all_meet(function.arguments(), givens),
+            agrees: datatypes_agree(function, function.arguments(), givens),
+        }),
     }
 }
 

@@ -226,11 +226,11 @@ fn function_shape(names: &Names, f: &Function) -> Shape
     ensures { result ≡ units.function_shape names.now (function_of f.now) }
 {
     let declared = names.find(f.name.as_slice());
-    Shape::Item(ItemShape::Function(
-        conflicts(names, declared, f),
-        known(f.name.as_slice()).is_some(),
-        answer_kind(f.returns),
-    ))
+    Shape::Item(ItemShape::Function {
+        is_twice: conflicts(names, declared, f),
+        is_known: known(f.name.as_slice()).is_some(),
+        returns: answer_kind(f.returns),
+    })
 }
 
 /// A function: the definition, where it is one.

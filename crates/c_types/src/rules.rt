@@ -277,7 +277,11 @@ fn item_rule(shape: ItemShape) -> Option<u16>
         ItemShape::Scope(may_stand) => or_else(!may_stand, 30, None),
         ItemShape::Variable(declared) => variable_rule(declared),
         ItemShape::Parameter(parameter) => parameter_rule(parameter),
-        ItemShape::Function(is_twice, is_known, returns) => or_else(
+        ItemShape::Function {
+            is_twice,
+            is_known,
+            returns,
+        } => or_else(
             is_twice,
             2,
             or_else(is_known, 4, or_else(is_no_answer(returns), 8, None)),
@@ -292,12 +296,16 @@ fn statement_rule(shape: StatementShape) -> Option<u16>
         StatementShape::Tested(condition) => or_else(is_no_condition(condition), 13, None),
         StatementShape::Returned(due, given) => or_else(returns_amiss(due, given), 22, None),
         StatementShape::Jumped(in_loop) => or_else(!in_loop, 23, None),
-        StatementShape::Single(are_shared, may_stand, before) => or_else(
+        StatementShape::Single {
+            are_shared,
+            may_stand,
+            before,
+        } => or_else(
             !are_shared,
             31,
             or_else(!may_stand, 32, or_else(before >= 256, 33, None)),
         ),
-        StatementShape::Barrier(are_shared, before) => {
+        StatementShape::Barrier { are_shared, before } => {
             or_else(!are_shared, 31, or_else(before >= 256, 33, None))
         }
     }
@@ -308,18 +316,21 @@ fn call_rule(shape: CallShape) -> Option<u16>
 {
     match shape {
         CallShape::Nothing => Some(3),
-        CallShape::Own(is_defined, agrees, _) => {
-            or_else(!agrees, 20, or_else(!is_defined, 21, None))
-        }
+        CallShape::Own {
+            is_defined,
+            agrees,
+            ..
+        } => or_else(!agrees, 20, or_else(!is_defined, 21, None)),
         CallShape::Printf(agrees) => or_else(!agrees, 24, None),
-        CallShape::Malloc(element, has_number) => {
-            or_else(element.is_none() || !has_number, 25, None)
-        }
+        CallShape::Malloc {
+            element,
+            has_number,
+        } => or_else(element.is_none() || !has_number, 25, None),
         CallShape::Free(has_pointer) => or_else(!has_pointer, 25, None),
-        CallShape::Init(has_two, may_stand) => {
+        CallShape::Init { has_two, may_stand } => {
             or_else(!has_two, 26, or_else(!may_stand, 28, None))
         }
-        CallShape::Mpi(meets, agrees) => or_else(!meets, 26, or_else(!agrees, 27, None)),
+        CallShape::Mpi { meets, agrees } => or_else(!meets, 26, or_else(!agrees, 27, None)),
     }
 }
 
@@ -497,10 +508,10 @@ fn call_kind(shape: CallShape) -> Option<Kind>
 {
     match shape {
         CallShape::Nothing => None,
-        CallShape::Own(_, _, returns) => Some(returns),
-        CallShape::Malloc(element, _) => pointer_to(element),
+        CallShape::Own { returns, .. } => Some(returns),
+        CallShape::Malloc { element, .. } => pointer_to(element),
         CallShape::Free(_) => Some(Kind::Void),
-        CallShape::Printf(_) | CallShape::Init(_, _) | CallShape::Mpi(_, _) => {
+        CallShape::Printf(_) | CallShape::Init { .. } | CallShape::Mpi { .. } => {
             Some(Kind::Plain(Base::Int))
         }
     }

@@ -52,9 +52,13 @@ pub enum ItemShape {
     Scope(bool),
     Variable(Declared),
     Parameter(Parameter),
-    /// A prototype or definition: whether the name is declared otherwise, whether it is a known name,
-    /// and what the function answers.
-    Function(bool, bool, Kind),
+    /// A prototype or definition of a function.
+    Function {
+        /// The name is declared otherwise.
+        is_twice: bool,
+        is_known: bool,
+        returns: Kind,
+    },
 }
 
 /// What the rules read of a statement.
@@ -66,11 +70,20 @@ pub enum StatementShape {
     Returned(Kind, Option<Option<Kind>>),
     /// A break or continue, and whether it is in a loop.
     Jumped(bool),
-    /// A single: whether its names are variables of one level, whether its block may stand there, and
-    /// how many statements that share variables stand before it.
-    Single(bool, bool, usize),
-    /// A barrier: whether its names are variables with a level, and how many stand before it.
-    Barrier(bool, usize),
+    Single {
+        /// Its names are variables of one level.
+        are_shared: bool,
+        /// Its block may stand there.
+        may_stand: bool,
+        /// How many statements that share variables stand before it.
+        before: usize,
+    },
+    Barrier {
+        /// Its names are variables with a level.
+        are_shared: bool,
+        /// How many statements that share variables stand before it.
+        before: usize,
+    },
 }
 
 /// What the rules read of a call.
@@ -78,21 +91,36 @@ pub enum StatementShape {
 pub enum CallShape {
     /// Of what is no function.
     Nothing,
-    /// Of the program's own function: whether it is defined, whether the arguments agree with its
-    /// parameters, and what it answers.
-    Own(bool, bool, Kind),
+    /// Of the program's own function.
+    Own {
+        is_defined: bool,
+        /// The arguments agree with its parameters.
+        agrees: bool,
+        returns: Kind,
+    },
     /// `printf`, and whether its arguments are those of its format.
     Printf(bool),
-    /// `malloc`: the element of the pointer that it is for, where it may stand there, and whether it has
-    /// one number.
-    Malloc(Option<Base>, bool),
+    Malloc {
+        /// The element of the pointer that it is for, where it may stand there.
+        element: Option<Base>,
+        /// Its argument is one number.
+        has_number: bool,
+    },
     /// `free`, and whether it has one pointer.
     Free(bool),
-    /// MPI_Init: whether it has two arguments, and whether they are those that it may have.
-    Init(bool, bool),
-    /// Another MPI function: whether its arguments are those of its row, and whether the buffers agree
-    /// with the datatypes.
-    Mpi(bool, bool),
+    /// MPI_Init.
+    Init {
+        has_two: bool,
+        /// Its arguments are those that it may have.
+        may_stand: bool,
+    },
+    /// Another MPI function.
+    Mpi {
+        /// Its arguments are those of its row.
+        meets: bool,
+        /// The buffers agree with the datatypes.
+        agrees: bool,
+    },
 }
 
 /// What the rules read of an expression with at most one operand, or of an element.

@@ -163,7 +163,10 @@ pub fn pass_barrier(
 {
     let found = levels_of(true, names, all.as_slice());
     let number = next_construct(names, HlsKind::Barrier, found)?;
-    let shape = Shape::Statement(StatementShape::Barrier(found.is_some(), number as usize));
+    let shape = Shape::Statement(StatementShape::Barrier {
+        are_shared: found.is_some(),
+        before: number as usize,
+    });
     Ok(blamed(shape, at.line, Ok(Stmt::Barrier(at.line, number))))
 }
 

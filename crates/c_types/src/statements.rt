@@ -147,7 +147,11 @@ fn pass_single(
     let number = next_construct(names, single_kind(nowait), found)?;
     let may_stand = is_closed(in_loop, escapes(body));
     let made = pass(alloc, names, in_loop, body)?;
-    let shape = StatementShape::Single(found.is_some(), may_stand, number as usize);
+    let shape = StatementShape::Single {
+        are_shared: found.is_some(),
+        may_stand,
+        before: number as usize,
+    };
     single_made(alloc, at, Shape::Statement(shape), number, nowait, made)
 }
 
