@@ -1,7 +1,7 @@
 -- What a machine has come to behind a list of answers, and code that never sticks.
 use Rattle.std.specs.Prelude.{◌≡◌, ℕ, ◌+◌, List, ◌++◌, Some, slice_get}
-use Rattle.mpc_base.specs.declared.calls.Call.{Call}
-use Rattle.mpc_base.specs.declared.answers.Answer.{Answer}
+use Rattle.mpc_values.specs.declared.calls.Call.{Call}
+use Rattle.mpc_values.specs.declared.answers.Answer.{Answer}
 use Rattle.c_tree.specs.Asking.{Next}
 use Rattle.c_code.specs.declared.code.Entry.{Entry}
 use Rattle.c_code.specs.FlatCode.{FlatCode}

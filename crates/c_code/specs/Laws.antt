@@ -1,7 +1,7 @@
 -- What is proved of machines and code.
 use Rattle.std.specs.Prelude.{◌≡◌, ℕ, true, false, List, [], ◌∷◌, ◌++◌, Some, slice_get}
-use Rattle.mpc_base.specs.declared.calls.Call.{Call}
-use Rattle.mpc_base.specs.declared.answers.Answer.{Answer}
+use Rattle.mpc_values.specs.declared.calls.Call.{Call}
+use Rattle.mpc_values.specs.declared.answers.Answer.{Answer}
 use Rattle.c_tree.specs.Asking.{Next, fits}
 use Rattle.c_tree.specs.Asking as asking
 use Rattle.c_tree.specs.Scripts.{ends_run}

@@ -2,7 +2,7 @@
 
 use crate::printing::Printed;
 use c_tree::program::{Comparison, MpiCall, Operation, Scalar, Update, Width};
-use mpc_base::Word;
+use mpc_values::Word;
 
 /// One instruction. It works on the stack of words, whose top is meant by "the word", on the slots of
 /// the function's locals, and asks at most one call at a time. A jump says how many instructions it

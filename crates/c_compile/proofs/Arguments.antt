@@ -2,7 +2,7 @@
 use Rattle.std.proofs.Common.{◌≡◌, ℕ, List, [], ◌∷◌, ◌++◌, length, refl, sym, ap, ◌∙◌, append_assoc, take, drop, reverse}
 use Rattle.std.proofs.lemmas.List.{reverse-append, reverse-reverse, length-reverse}
 use Rattle.std.proofs.Math.Seq.{take-append_seam, drop-append_seam}
-use Rattle.mpc_base.specs.declared.values.Word.{Word}
+use Rattle.mpc_values.specs.declared.values.Word.{Word}
 use Rattle.c_code.specs.Machine.{arguments_on}
 
 -- the words on the stack, the last on top

@@ -1,7 +1,7 @@
 -- Codes of expressions that evaluate one side or the other, and of `++` and `--`.
 use Rattle.std.proofs.Common.{◌≡◌, ℕ, ◌+◌, ◌≤◌, Bool, true, false, cond, List, [], ◌∷◌, ◌++◌, length, pos, refl, arith, length-append}
-use Rattle.mpc_base.specs.declared.values.Word.{Word}
-use Rattle.mpc_base.specs.declared.values.Word.TheVariants.{Int}
+use Rattle.mpc_values.specs.declared.values.Word.{Word}
+use Rattle.mpc_values.specs.declared.values.Word.TheVariants.{Int}
 use Rattle.c_tree.specs.declared.program.Update.{Update}
 use Rattle.c_tree.specs.Words.{holds, truth}
 use Rattle.c_tree.specs.Asking.{Next, State, Step, ◌>>=◌, pure, set}

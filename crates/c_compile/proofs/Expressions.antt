@@ -1,9 +1,9 @@
 -- The code of an expression gives its value, and asks what its evaluation asks.
 use Rattle.std.proofs.Common.{◌≡◌, ℕ, suc, ◌+◌, ◌≤◌, not, cond, List, [], ◌∷◌, ◌++◌, length, Some, pos, refl, ap, arith, length-append}
 use Rattle.std.specs.Prelude.{slice_get}
-use Rattle.mpc_base.specs.declared.values.Word.{Word}
-use Rattle.mpc_base.specs.declared.values.Word.TheVariants.{Int}
-use Rattle.mpc_base.specs.declared.calls.Call.TheVariants as call
+use Rattle.mpc_values.specs.declared.values.Word.{Word}
+use Rattle.mpc_values.specs.declared.values.Word.TheVariants.{Int}
+use Rattle.mpc_values.specs.declared.calls.Call.TheVariants as call
 use Rattle.c_tree.specs.declared.formats.Piece.{Piece}
 use Rattle.c_tree.specs.declared.program.Callee.{Callee}
 use Rattle.c_tree.specs.declared.program.Callee.TheVariants as callee

@@ -1,12 +1,12 @@
 -- The codes of loops, of sharing statements, and of whole statements.
 use Rattle.std.proofs.Common.{◌≡◌, ℕ, zero, suc, ◌+◌, ◌-◌, ◌≤◌, Bool, true, false, cond, List, [], ◌∷◌, ◌++◌, length, Option, Some, None, pos, refl, subst, arith, length-append}
 use Rattle.std.specs.Prelude.{slice_set}
-use Rattle.mpc_base.specs.declared.values.Word.{Word}
-use Rattle.mpc_base.specs.declared.values.Word.TheVariants.{Undef, Int}
-use Rattle.mpc_base.specs.declared.calls.Call.TheVariants as call
-use Rattle.mpc_base.specs.declared.faults.Fault.TheVariants.{Turns}
-use Rattle.mpc_base.specs.declared.answers.Way.{Way}
-use Rattle.mpc_base.specs.declared.answers.Way.TheVariants as way
+use Rattle.mpc_values.specs.declared.values.Word.{Word}
+use Rattle.mpc_values.specs.declared.values.Word.TheVariants.{Undef, Int}
+use Rattle.mpc_values.specs.declared.calls.Call.TheVariants as call
+use Rattle.mpc_values.specs.declared.faults.Fault.TheVariants.{Turns}
+use Rattle.mpc_values.specs.declared.answers.Way.{Way}
+use Rattle.mpc_values.specs.declared.answers.Way.TheVariants as way
 use Rattle.c_tree.specs.Programs as p
 use Rattle.c_tree.specs.Words.{holds}
 use Rattle.c_tree.specs.Asking.{Next, State, Step, ◌>>=◌, pure, ask, fault, set, tick}

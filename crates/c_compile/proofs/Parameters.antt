@@ -6,7 +6,7 @@ use Rattle.c_code.specs.declared.instr.Instr.{Instr}
 use Rattle.c_code.specs.declared.instr.Instr.TheVariants as i
 use Rattle.std.proofs.Common.{pos}
 use Rattle.std.specs.Prelude.{slice_get}
-use Rattle.mpc_base.specs.declared.values.Word.TheVariants.{Int}
+use Rattle.mpc_values.specs.declared.values.Word.TheVariants.{Int}
 use Rattle.c_tree.specs.declared.program.Function.{Function}
 use Rattle.c_tree.specs.declared.program.Stmt.{Stmt}
 use Rattle.c_tree.specs.Programs as p

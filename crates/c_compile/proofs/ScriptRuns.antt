@@ -1,10 +1,10 @@
 -- The machine takes the script of an MPI function as its meaning does.
 use Rattle.std.proofs.Common.{◌≡◌, ℕ, zero, suc, ◌+◌, Bool, true, false, List, [], ◌∷◌, length, Some, ℤ, pos, negsuc, refl, ap, ◌∙◌, subst}
 use Rattle.std.specs.Prelude.{slice_get, if◌then◌else◌}
-use Rattle.mpc_base.specs.declared.values.Word.{Word}
-use Rattle.mpc_base.specs.declared.values.Word.TheVariants.{Int}
-use Rattle.mpc_base.specs.declared.faults.Fault.TheVariants.{BadCount}
-use Rattle.mpc_base.specs.declared.answers.Answer.{Answer}
+use Rattle.mpc_values.specs.declared.values.Word.{Word}
+use Rattle.mpc_values.specs.declared.values.Word.TheVariants.{Int}
+use Rattle.mpc_values.specs.declared.faults.Fault.TheVariants.{BadCount}
+use Rattle.mpc_values.specs.declared.answers.Answer.{Answer}
 use Rattle.c_tree.specs.declared.program.MpiCall.{MpiCall}
 use Rattle.c_tree.specs.declared.scripts.ScriptStep.{ScriptStep}
 use Rattle.c_tree.specs.MpiScripts.{steps_of, each_of, last_of}

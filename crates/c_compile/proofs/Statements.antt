@@ -1,6 +1,6 @@
 -- The code of a statement does what the statement does, on each way out of it.
 use Rattle.std.proofs.Common.{◌≡◌, ℕ, suc, ◌+◌, ◌≤◌, List, [], ◌∷◌, ◌++◌, length, refl, sym, ◌∙◌, subst, arith, length-append}
-use Rattle.mpc_base.specs.declared.values.Word.{Word}
+use Rattle.mpc_values.specs.declared.values.Word.{Word}
 use Rattle.c_tree.specs.Words.{holds}
 use Rattle.c_tree.specs.Asking.{Next, State, Step, ◌>>=◌, pure}
 use Rattle.c_tree.specs.Evaluation.{if_holds}

@@ -1,6 +1,6 @@
 -- The code of a typed program.
 use Rattle.std.specs.Prelude.{ℕ, suc, ◌+◌, pos, Bool, true, false, List, [], ◌∷◌, ◌++◌, length, Option, Some, None}
-use Rattle.mpc_base.specs.declared.values.Word.TheVariants.{Int}
+use Rattle.mpc_values.specs.declared.values.Word.TheVariants.{Int}
 use Rattle.c_tree.specs.declared.program.Update.{Update}
 use Rattle.c_tree.specs.declared.program.Callee.{Callee}
 use Rattle.c_tree.specs.declared.program.Callee.TheVariants as callee

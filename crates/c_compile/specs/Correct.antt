@@ -1,6 +1,6 @@
 -- The code of a program, and what makes code right for a program.
 use Rattle.std.specs.Prelude.{◌<◌, List, length, slice_get}
-use Rattle.mpc_base.specs.declared.answers.Answer.{Answer}
+use Rattle.mpc_values.specs.declared.answers.Answer.{Answer}
 use Rattle.c_tree.specs.Programs.{Program}
 use Rattle.c_tree.specs.Next.{next_of}
 use Rattle.c_code.specs.FlatCode.{FlatCode}

@@ -1,10 +1,10 @@
 -- Programs that use no MPI function and no directive that shares variables.
 use Rattle.std.specs.Prelude.{◌≡◌, ℕ, ◌≤◌, Bool, true, false, not, ◌&&◌, List, Option, Some, None, is_some}
 use Rattle.std.specs.List.{list_all}
-use Rattle.mpc_base.specs.declared.owners.StaticVar.{StaticVar}
-use Rattle.mpc_base.specs.declared.calls.Call.{Call}
-use Rattle.mpc_base.specs.declared.answers.Answer.{Answer}
-use Rattle.mpc_base.specs.CallTable.{call_number}
+use Rattle.mpc_values.specs.declared.owners.StaticVar.{StaticVar}
+use Rattle.mpc_values.specs.declared.calls.Call.{Call}
+use Rattle.mpc_values.specs.declared.answers.Answer.{Answer}
+use Rattle.mpc_values.specs.CallTable.{call_number}
 use Rattle.c_tree.specs.declared.program.Callee.{Callee}
 use Rattle.c_tree.specs.declared.program.Callee.TheVariants as callee
 use Rattle.c_tree.specs.Programs as p

@@ -9,7 +9,7 @@ use crate::emitter::Emitter;
 use crate::function_code::put_function;
 use c_code::{Code, Entry};
 use c_tree::program::{Function, Program};
-use mpc_base::Memory;
+use mpc_values::Memory;
 use std::alloc::Global;
 
 // The code of functions, one behind the other, and the length of each, the last one's first.

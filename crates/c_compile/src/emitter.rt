@@ -4,7 +4,7 @@ ghost use Rattle.std.specs.Prelude.{◌≡◌, ◌<◌, ◌≤◌, ◌-◌, ◌�
 ghost use Rattle.c_code.specs.declared.instr.Instr.{Instr};
 
 use c_code::Instr;
-use mpc_base::Memory;
+use mpc_values::Memory;
 use std::alloc::Global;
 use std::marker::Model;
 

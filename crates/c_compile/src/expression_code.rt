@@ -8,7 +8,7 @@ use crate::emitter::Emitter;
 use c_code::{Instr, Printed, Printing};
 use c_tree::formats::Format;
 use c_tree::program::{Callee, Expr, Scalar, Update};
-use mpc_base::{Memory, Word};
+use mpc_values::{Memory, Word};
 
 // What an updated variable is read as.
 fn scalar_of(update: Update) -> Scalar

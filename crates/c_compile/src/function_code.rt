@@ -10,7 +10,7 @@ use crate::statement_code::put_items;
 use crate::surroundings::Surroundings;
 use c_code::Instr;
 use c_tree::program::Function;
-use mpc_base::{Memory, Word};
+use mpc_values::{Memory, Word};
 
 // The slot of a parameter.
 fn slot_of(index: usize) -> Result<u32, Memory>

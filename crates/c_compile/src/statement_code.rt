@@ -12,7 +12,7 @@ use crate::expression_code::put_expression;
 use crate::surroundings::Surroundings;
 use c_code::Instr;
 use c_tree::program::{Ending, Expr, Stmt};
-use mpc_base::{Memory, Word};
+use mpc_values::{Memory, Word};
 
 // A condition, which always holds where there is none.
 fn put_test(out: &mut Emitter, line: u32, test: &Option<Expr>) -> Result<(), Memory>

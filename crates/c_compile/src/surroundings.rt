@@ -2,7 +2,7 @@
 ghost use Rattle.std.specs.Prelude.{◌≡◌, ◌≤◌, ℕ, ◌++◌, ◌∷◌, [], OnOk, length, drop};
 ghost use Rattle.c_compile.specs.Standing.{Standing, with_opened};
 
-use mpc_base::Memory;
+use mpc_values::Memory;
 use std::alloc::Global;
 use std::marker::Model;
 

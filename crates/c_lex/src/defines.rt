@@ -3,7 +3,7 @@ ghost use Rattle.std.specs.Prelude.{◌≡◌, OnOk};
 ghost use Rattle.c_lex.specs.Defined.{empty, with_name, meanings};
 
 use crate::tokens::Literal;
-use mpc_base::Memory;
+use mpc_values::Memory;
 use std::alloc::Global;
 use std::collections::BTreeMap;
 

@@ -10,7 +10,7 @@ use crate::defines::Defines;
 use crate::pieces::{Found, piece};
 use crate::places::{Place, behind};
 use crate::tokens::{Kind, LexRefusal, Token};
-use mpc_base::Memory;
+use mpc_values::Memory;
 use std::alloc::Global;
 
 /// Why a source gives no tokens.

@@ -1,6 +1,6 @@
 //! Sources and their tokens, worked out by hand from the lexical rules.
 use crate::{Kind, Token, lex};
-use mpc_base::Memory;
+use mpc_values::Memory;
 use std::alloc::Global;
 use std::test::Fail;
 

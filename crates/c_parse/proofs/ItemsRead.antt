@@ -1,6 +1,6 @@
 -- The items of a source are read exactly.
 use Rattle.std.proofs.Common.{◌≡◌, ℕ, inl, Bool, true, false, if◌then◌else◌, List, [], ◌∷◌, ◌++◌, Some, None, refl, sym, ◌∙◌}
-use Rattle.mpc_base.specs.declared.owners.Level.{Level}
+use Rattle.mpc_values.specs.declared.owners.Level.{Level}
 use Rattle.c_tree.specs.declared.syntax.Place.{Place}
 use Rattle.c_tree.specs.declared.syntax.Base.{Base}
 use Rattle.c_tree.specs.declared.syntax.Returns.{Returns}

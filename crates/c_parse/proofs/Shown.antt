@@ -1,7 +1,7 @@
 -- The symbol of one token, and the symbols of a list of tokens one by one.
 use Rattle.std.proofs.Common.{◌≡◌, ℕ, ◌+◌, ◌<◌, ◌≤◌, Bool, List, [], ◌∷◌, ◌++◌, Some, None, Result, Ok, Err, IfOk, IfErr, length, drop, map, get_or, refl, sym, ap, ◌∙◌, subst, append_assoc, add-one, drop-cons}
 use Rattle.std.proofs.lemmas.List.{map-append, drop_all, append-nil}
-use Rattle.mpc_base.specs.declared.owners.Level.{Level}
+use Rattle.mpc_values.specs.declared.owners.Level.{Level}
 use Rattle.hls_pragma.specs.declared.directives.NameSpan.{NameSpan}
 use Rattle.hls_pragma.specs.declared.directives.PragmaRefusal.{PragmaRefusal}
 use Rattle.hls_pragma.specs.declared.directives.Pragma.{Pragma}

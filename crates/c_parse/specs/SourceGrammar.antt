@@ -1,6 +1,6 @@
 -- The productions of a source, one definition each (C99, section 6.9).
 use Rattle.std.specs.Prelude.{ℕ, Bool, List, [], ◌∷◌, ◌++◌, Option, Some, None}
-use Rattle.mpc_base.specs.declared.owners.Level.{Level}
+use Rattle.mpc_values.specs.declared.owners.Level.{Level}
 use Rattle.c_tree.specs.declared.syntax.Place.{Place}
 use Rattle.c_tree.specs.declared.syntax.Returns.{Returns}
 use Rattle.c_tree.specs.declared.syntax.Returns.TheVariants.{Void, Value}

@@ -11,7 +11,7 @@ use crate::symbols::{Class, Key, Mark, Symbol};
 use crate::tokens::part;
 use c_tree::syntax::Place;
 use c_tree::{Identifier, Identifiers};
-use mpc_base::Memory;
+use mpc_values::Memory;
 use std::alloc::Global;
 use std::marker::Model;
 

@@ -9,7 +9,7 @@ ghost use Rattle.c_parse.specs.StatementGrammar.{block_of, items_of};
 use crate::signs::Prefix;
 use c_tree::syntax::{Binary, Body, Change, Expr, ForHead, Place, Stmt, TypeName};
 use c_tree::{Identifier, Identifiers};
-use mpc_base::Memory;
+use mpc_values::Memory;
 use std::alloc::Global;
 
 pub fn call(at: Place, name: Identifier, arguments: Vec<Expr>) -> Expr

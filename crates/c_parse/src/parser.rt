@@ -15,7 +15,7 @@ use crate::symbols::Class;
 use crate::tokens::symbols;
 use c_lex::Token;
 use c_tree::syntax::{Place, Tree};
-use mpc_base::Memory;
+use mpc_values::Memory;
 use std::alloc::Global;
 
 // The place just behind the last byte.

@@ -14,7 +14,7 @@ use crate::stops::Stop;
 use crate::symbols::{Class, Mark};
 use c_tree::Identifier;
 use c_tree::syntax::{Expr, Place};
-use mpc_base::Text;
+use mpc_values::Text;
 use std::alloc::Global;
 
 impl<F: Fn(Global, &mut Cursor<'_>, usize, Part) -> Result<Expr, Stop>> Grammar<F> {

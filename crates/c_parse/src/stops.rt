@@ -1,5 +1,5 @@
 //! Why reading stops.
-use mpc_base::Memory;
+use mpc_values::Memory;
 use std::alloc::{AllocError, AllocFailed};
 
 /// Why there is no tree.

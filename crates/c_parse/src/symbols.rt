@@ -1,7 +1,7 @@
 //! What the grammar sees of a token.
 use c_tree::Identifiers;
 use c_tree::syntax::{Binary, Change, Place, Unary};
-use mpc_base::Level;
+use mpc_values::Level;
 
 /// A key that a production uses (C99, section 6.4.1).
 #[derive(Clone, Copy, Debug, PartialEq, Eq)]

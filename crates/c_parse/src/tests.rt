@@ -6,7 +6,7 @@ mod shapes;
 use crate::{ParseRefusal, parse};
 use c_lex::lex;
 use c_tree::syntax::Tree;
-use mpc_base::Memory;
+use mpc_values::Memory;
 use std::alloc::Global;
 
 /// How a source is answered.

@@ -9,7 +9,7 @@ use c_lex::{Kind, Token};
 use c_tree::syntax::{Binary, Change, Place, Unary};
 use c_tree::{Identifier, Identifiers};
 use hls_pragma::{Names, Pragma, read_pragma};
-use mpc_base::Memory;
+use mpc_values::Memory;
 use std::alloc::Global;
 
 /// The keys and signs that productions use, and what each is.

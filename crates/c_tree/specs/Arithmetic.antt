@@ -2,8 +2,8 @@
 use Rattle.std.specs.Prelude.{ℤ, pos, ◌+ℤ◌, ◌-ℤ◌, ◌*ℤ◌, ◌^◌, Bool, not, ◌&&◌, if◌then◌else◌, neg_ℤ, int_le, int_lt, int_div, int_rem, unsigned_abs, Result, Ok, Err}
 use Rattle.std.specs.Int.{int_bit_and, int_bit_or, int_bit_xor, int_bit_not, int_shr, w64}
 use Rattle.std.specs.Ordering.{int_eq}
-use Rattle.mpc_base.specs.declared.faults.Fault.{Fault}
-use Rattle.mpc_base.specs.declared.faults.Fault.TheVariants as fault
+use Rattle.mpc_values.specs.declared.faults.Fault.{Fault}
+use Rattle.mpc_values.specs.declared.faults.Fault.TheVariants as fault
 use Rattle.c_tree.specs.declared.program.Width.{Width}
 use Rattle.c_tree.specs.declared.program.Width.TheVariants.{Long}
 use Rattle.c_tree.specs.declared.program.Operation.{Operation}

@@ -4,14 +4,14 @@
 -- that m gives, and the state behind it, on to k. So a step that asks is a function on the list of answers:
 -- it takes its own from the front, or, where none is left, is the answer to "what is asked next?".
 use Rattle.std.specs.Prelude.{ℕ, zero, suc, Bool, true, false, cond, List, [], ◌∷◌, slice_index_or, slice_set}
-use Rattle.mpc_base.specs.declared.values.Word.{Word}
-use Rattle.mpc_base.specs.declared.values.Word.TheVariants.{Undef}
-use Rattle.mpc_base.specs.declared.calls.Call.{Call}
-use Rattle.mpc_base.specs.declared.calls.Call.TheVariants as call
-use Rattle.mpc_base.specs.declared.faults.Fault.{Fault}
-use Rattle.mpc_base.specs.declared.faults.Fault.TheVariants.{Turns}
-use Rattle.mpc_base.specs.declared.answers.Answer.{Answer}
-use Rattle.mpc_base.specs.declared.answers.Answer.TheVariants.{Done, Gives, Posted, Got, Flag, Any, Entered}
+use Rattle.mpc_values.specs.declared.values.Word.{Word}
+use Rattle.mpc_values.specs.declared.values.Word.TheVariants.{Undef}
+use Rattle.mpc_values.specs.declared.calls.Call.{Call}
+use Rattle.mpc_values.specs.declared.calls.Call.TheVariants as call
+use Rattle.mpc_values.specs.declared.faults.Fault.{Fault}
+use Rattle.mpc_values.specs.declared.faults.Fault.TheVariants.{Turns}
+use Rattle.mpc_values.specs.declared.answers.Answer.{Answer}
+use Rattle.mpc_values.specs.declared.answers.Answer.TheVariants.{Done, Gives, Posted, Got, Flag, Any, Entered}
 
 -- what comes behind a list of answers: a call at a line, the end, or nothing, where the answers do not fit
 pub data Next : Type 0 where

@@ -1,15 +1,15 @@
 -- What statements and functions do (C99, sections 6.8 and 6.9).
 use Rattle.std.specs.Prelude.{ℕ, zero, suc, ◌+◌, ◌-◌, pos, Bool, true, false, List, [], ◌∷◌, ◌++◌, length, replicate, Option, Some, None}
-use Rattle.mpc_base.specs.declared.values.Word.{Word}
-use Rattle.mpc_base.specs.declared.values.Word.TheVariants.{Undef, Int, Ptr}
-use Rattle.mpc_base.specs.declared.values.Obj.{Obj}
-use Rattle.mpc_base.specs.declared.values.Obj.TheVariants.{Dyn}
-use Rattle.mpc_base.specs.declared.calls.Call.TheVariants as call
-use Rattle.mpc_base.specs.declared.faults.Fault.TheVariants.{Uninit, Turns, Depth}
-use Rattle.mpc_base.specs.declared.answers.Answer.{Answer}
-use Rattle.mpc_base.specs.declared.answers.Answer.TheVariants.{Entered}
-use Rattle.mpc_base.specs.declared.answers.Way.{Way}
-use Rattle.mpc_base.specs.declared.answers.Way.TheVariants as way
+use Rattle.mpc_values.specs.declared.values.Word.{Word}
+use Rattle.mpc_values.specs.declared.values.Word.TheVariants.{Undef, Int, Ptr}
+use Rattle.mpc_values.specs.declared.values.Obj.{Obj}
+use Rattle.mpc_values.specs.declared.values.Obj.TheVariants.{Dyn}
+use Rattle.mpc_values.specs.declared.calls.Call.TheVariants as call
+use Rattle.mpc_values.specs.declared.faults.Fault.TheVariants.{Uninit, Turns, Depth}
+use Rattle.mpc_values.specs.declared.answers.Answer.{Answer}
+use Rattle.mpc_values.specs.declared.answers.Answer.TheVariants.{Entered}
+use Rattle.mpc_values.specs.declared.answers.Way.{Way}
+use Rattle.mpc_values.specs.declared.answers.Way.TheVariants as way
 use Rattle.c_tree.specs.declared.program.Ending.{Ending}
 use Rattle.c_tree.specs.declared.program.Ending.TheVariants as ending
 use Rattle.c_tree.specs.Programs.{Expr, Stmt, Eval, Unset, New, Block, If, While, DoWhile, For, Return, Break, Continue, Single, Barrier, Stmts, Done, Then, Function}

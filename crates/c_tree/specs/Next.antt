@@ -1,10 +1,10 @@
 -- What a task asks next, behind a list of answers.
 use Rattle.std.specs.Prelude.{ℕ, zero, suc, ℤ, pos, List, [], ◌∷◌, Option, Some, None, slice_get, Bool}
-use Rattle.mpc_base.specs.declared.values.Word.{Word}
-use Rattle.mpc_base.specs.declared.values.Word.TheVariants.{Int, Null}
-use Rattle.mpc_base.specs.declared.calls.Call.TheVariants as call
-use Rattle.mpc_base.specs.declared.faults.Fault.TheVariants.{Depth}
-use Rattle.mpc_base.specs.declared.answers.Answer.{Answer}
+use Rattle.mpc_values.specs.declared.values.Word.{Word}
+use Rattle.mpc_values.specs.declared.values.Word.TheVariants.{Int, Null}
+use Rattle.mpc_values.specs.declared.calls.Call.TheVariants as call
+use Rattle.mpc_values.specs.declared.faults.Fault.TheVariants.{Depth}
+use Rattle.mpc_values.specs.declared.answers.Answer.{Answer}
 use Rattle.c_tree.specs.declared.program.Width.TheVariants as width
 use Rattle.c_tree.specs.Programs.{Function, Program}
 use Rattle.c_tree.specs.Numbers.{number_of}

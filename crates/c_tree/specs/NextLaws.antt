@@ -1,7 +1,7 @@
 -- Laws of what a task asks next.
 use Rattle.std.specs.Prelude.{◌≡◌, ◌⊎◌, false, List, [], ◌∷◌, ◌++◌, ℕ}
-use Rattle.mpc_base.specs.declared.calls.Call.{Call}
-use Rattle.mpc_base.specs.declared.answers.Answer.{Answer}
+use Rattle.mpc_values.specs.declared.calls.Call.{Call}
+use Rattle.mpc_values.specs.declared.answers.Answer.{Answer}
 use Rattle.c_tree.specs.Programs.{Program}
 use Rattle.c_tree.specs.Asking.{Asks, Over, Misfit, fits}
 use Rattle.c_tree.specs.Next.{next_of}

@@ -1,7 +1,7 @@
 -- The typed program without the pointers that the code's program has. Definitions over programs are over these.
 use Rattle.std.specs.Prelude.{ℕ, Bool, List, Option}
-use Rattle.mpc_base.specs.declared.values.Word.{Word}
-use Rattle.mpc_base.specs.declared.owners.StaticVar.{StaticVar}
+use Rattle.mpc_values.specs.declared.values.Word.{Word}
+use Rattle.mpc_values.specs.declared.owners.StaticVar.{StaticVar}
 use Rattle.c_tree.specs.declared.program.Width.{Width}
 use Rattle.c_tree.specs.declared.program.Scalar.{Scalar}
 use Rattle.c_tree.specs.declared.program.Operation.{Operation}

@@ -1,18 +1,18 @@
 -- What an MPI function asks, step by step.
 use Rattle.std.specs.Prelude.{ℕ, zero, suc, ◌+◌, ◌*◌, ℤ, pos, negsuc, Bool, true, false, if◌then◌else◌, List, [], ◌∷◌, ◌++◌, Option, Some, None, Result, Ok, Err, slice_index_or}
-use Rattle.mpc_base.specs.declared.values.Word.{Word}
-use Rattle.mpc_base.specs.declared.values.Word.TheVariants.{Int, Null, Comm, Req}
-use Rattle.mpc_base.specs.declared.calls.Call.{Call}
-use Rattle.mpc_base.specs.declared.calls.Call.TheVariants as call
-use Rattle.mpc_base.specs.declared.collectives.Coll.{Coll}
-use Rattle.mpc_base.specs.declared.collectives.CollKind.TheVariants.{Free}
-use Rattle.mpc_base.specs.declared.values.Op.TheVariants.{Sum}
-use Rattle.mpc_base.specs.declared.values.Datatype.TheVariants as datatype
-use Rattle.mpc_base.specs.declared.faults.Fault.{Fault}
-use Rattle.mpc_base.specs.declared.faults.Fault.TheVariants.{BadCount}
-use Rattle.mpc_base.specs.declared.answers.Answer.{Answer}
-use Rattle.mpc_base.specs.declared.answers.Answer.TheVariants.{Posted, Got, Flag, Any}
-use Rattle.mpc_base.specs.declared.answers.Status.{Status}
+use Rattle.mpc_values.specs.declared.values.Word.{Word}
+use Rattle.mpc_values.specs.declared.values.Word.TheVariants.{Int, Null, Comm, Req}
+use Rattle.mpc_values.specs.declared.calls.Call.{Call}
+use Rattle.mpc_values.specs.declared.calls.Call.TheVariants as call
+use Rattle.mpc_values.specs.declared.collectives.Coll.{Coll}
+use Rattle.mpc_values.specs.declared.collectives.CollKind.TheVariants.{Free}
+use Rattle.mpc_values.specs.declared.values.Op.TheVariants.{Sum}
+use Rattle.mpc_values.specs.declared.values.Datatype.TheVariants as datatype
+use Rattle.mpc_values.specs.declared.faults.Fault.{Fault}
+use Rattle.mpc_values.specs.declared.faults.Fault.TheVariants.{BadCount}
+use Rattle.mpc_values.specs.declared.answers.Answer.{Answer}
+use Rattle.mpc_values.specs.declared.answers.Answer.TheVariants.{Posted, Got, Flag, Any}
+use Rattle.mpc_values.specs.declared.answers.Status.{Status}
 use Rattle.c_tree.specs.declared.program.MpiCall.{MpiCall}
 use Rattle.c_tree.specs.declared.program.Width.TheVariants as width
 use Rattle.c_tree.specs.declared.scripts.Target.{Target}

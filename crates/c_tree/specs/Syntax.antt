@@ -1,6 +1,6 @@
 -- The tree of a source without the pointers that the code's tree has. Definitions over trees are over these.
 use Rattle.std.specs.Prelude.{ℕ, ℤ, Bool, List, Option}
-use Rattle.mpc_base.specs.declared.owners.Level.{Level}
+use Rattle.mpc_values.specs.declared.owners.Level.{Level}
 use Rattle.c_tree.specs.declared.syntax.Place.{Place}
 use Rattle.c_tree.specs.declared.syntax.Base.{Base}
 use Rattle.c_tree.specs.declared.syntax.TypeName.{TypeName}

@@ -2,12 +2,12 @@
 use Rattle.std.specs.Prelude.{ℕ, ℤ, pos, negsuc, ◌+ℤ◌, ◌-ℤ◌, ◌*ℤ◌, ◌/◌, Bool, true, false, not, ◌&&◌, if◌then◌else◌, nat_lt, nat_eq, Result, Ok, Err, List, [], ◌∷◌, ◌++◌}
 use Rattle.std.specs.Ordering.{int_eq}
 use Rattle.std.specs.Fmt.{signed_decimal}
-use Rattle.mpc_base.specs.declared.values.Word.{Word}
-use Rattle.mpc_base.specs.declared.values.Word.TheVariants.{Undef, Int, Null, Ptr, Comm, Req}
-use Rattle.mpc_base.specs.declared.values.Obj.{Obj}
-use Rattle.mpc_base.specs.declared.values.Obj.TheVariants.{Glob, Dyn}
-use Rattle.mpc_base.specs.declared.faults.Fault.{Fault}
-use Rattle.mpc_base.specs.declared.faults.Fault.TheVariants as fault
+use Rattle.mpc_values.specs.declared.values.Word.{Word}
+use Rattle.mpc_values.specs.declared.values.Word.TheVariants.{Undef, Int, Null, Ptr, Comm, Req}
+use Rattle.mpc_values.specs.declared.values.Obj.{Obj}
+use Rattle.mpc_values.specs.declared.values.Obj.TheVariants.{Glob, Dyn}
+use Rattle.mpc_values.specs.declared.faults.Fault.{Fault}
+use Rattle.mpc_values.specs.declared.faults.Fault.TheVariants as fault
 use Rattle.c_tree.specs.declared.formats.Piece.{Piece}
 use Rattle.c_tree.specs.declared.formats.Piece.TheVariants as piece
 use Rattle.c_tree.specs.declared.program.Width.TheVariants.{Long}

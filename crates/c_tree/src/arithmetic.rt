@@ -6,7 +6,7 @@ ghost use Rattle.c_tree.specs.Numbers.{wrapped, bits_of};
 ghost use Rattle.c_tree.specs.declared.program.Width.TheVariants as width;
 
 use crate::program::{Comparison, Operation, Width};
-use mpc_base::Fault;
+use mpc_values::Fault;
 
 // A number as an int: the lowest 32 bits.
 fn wrap_int(number: i64) -> i32

@@ -1,7 +1,7 @@
 //! Formats of printed texts.
 ghost use Rattle.std.specs.Prelude.{◌≡◌};
 
-use mpc_base::Text;
+use mpc_values::Text;
 use std::marker::Model;
 
 /// A part of a printed text.

@@ -8,7 +8,7 @@ ghost use Rattle.std.specs.Prelude.{◌≡◌, ◌<◌, length};
 use crate::formats::Format;
 use crate::mpi::MpiFunction;
 use crate::variables::Globals;
-use mpc_base::{Datatype, Level, Op, Word};
+use mpc_values::{Datatype, Level, Op, Word};
 use std::marker::Model;
 
 /// The type of numbers: int of 32 bits, or long of 64.

@@ -2,7 +2,7 @@
 ghost use Rattle.std.specs.Prelude.{◌≡◌, ◌<◌, ◌-◌, ◌^◌, length, min, slice_get, Some};
 
 use crate::program::{Construct, Program};
-use mpc_base::StaticVar;
+use mpc_values::StaticVar;
 
 /// A length as a `u32`, or the greatest one.
 fn counted(len: usize) -> u32

@@ -8,7 +8,7 @@ ghost use Rattle.std.specs.Prelude.{◌≡◌};
 ghost use Rattle.c_tree.specs.MpiScripts as scripts;
 
 use crate::mpi::MpiFunction;
-use mpc_base::CollKind;
+use mpc_values::CollKind;
 
 /// A place that an argument names; in the steps for each request, so many words further for each
 /// one before it.

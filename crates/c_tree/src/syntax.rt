@@ -2,7 +2,7 @@
 //! place of its first token. Parentheses leave no node, and neither does a foreign pragma.
 
 use crate::names::{Identifier, Identifiers};
-use mpc_base::{Level, Text};
+use mpc_values::{Level, Text};
 
 /// A line and a column of the source, both from 1; columns count bytes.
 #[derive(Clone, Copy, Debug, PartialEq, Eq)]

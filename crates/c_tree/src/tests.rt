@@ -3,7 +3,7 @@
 use crate::Globals;
 use crate::mpi::{MPI_FUNCTIONS, MpiFunction};
 use crate::program::{Construct, Constructs, HlsKind, Program};
-use mpc_base::{Level, StaticVar, Word, Words};
+use mpc_values::{Level, StaticVar, Word, Words};
 use std::test::*;
 
 #[test]

@@ -1,6 +1,6 @@
 ghost use Rattle.std.specs.Prelude.{◌≡◌};
 
-use mpc_base::StaticVar;
+use mpc_values::StaticVar;
 use std::marker::Model;
 
 /// Static variables in order of their numbers, counted from 0.
@@ -11,7 +11,7 @@ pub struct Globals {
 
 impl Model for Globals {
     ghost use Rattle.std.specs.Prelude.{List};
-    ghost use Rattle.mpc_base.specs.declared.owners.StaticVar.{StaticVar};
+    ghost use Rattle.mpc_values.specs.declared.owners.StaticVar.{StaticVar};
 
     ghost Value = { List StaticVar };
 

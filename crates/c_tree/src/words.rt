@@ -2,7 +2,7 @@
 ghost use Rattle.std.specs.Prelude.{◌≡◌};
 ghost use Rattle.c_tree.specs.Words as words;
 
-use mpc_base::{Obj, Word};
+use mpc_values::{Obj, Word};
 
 /// Whether a number or pointer holds as a condition: it is neither 0 nor NULL (C99 6.8.4.1); a word of another kind
 /// does not.

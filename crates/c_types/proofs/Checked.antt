@@ -1,7 +1,7 @@
 -- What the pass over a whole tree answers, as the laws of typing say it.
 use Rattle.std.proofs.Common.{◌≡◌, sym, Result, Ok, Err, IfOk}
 use Rattle.std.specs.Prelude.{IfErr}
-use Rattle.mpc_base.specs.declared.failures.Memory.{Memory}
+use Rattle.mpc_values.specs.declared.failures.Memory.{Memory}
 use Rattle.c_tree.specs.declared.program.Program.{Program}
 use Rattle.c_tree.specs.ProgramOf.{program_of}
 use Rattle.c_tree.specs.Syntax.{Tree}

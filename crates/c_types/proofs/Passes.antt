@@ -4,8 +4,8 @@ use Rattle.std.specs.Borrow.{Bor}
 use Rattle.std.specs.Prelude.{Box}
 use Rattle.std.proofs.lemmas.List.{drop_more}
 use Rattle.std.specs.Prelude.{option_map}
-use Rattle.mpc_base.specs.declared.failures.Memory.{Memory}
-use Rattle.mpc_base.specs.declared.owners.Level.{Level}
+use Rattle.mpc_values.specs.declared.failures.Memory.{Memory}
+use Rattle.mpc_values.specs.declared.owners.Level.{Level}
 use Rattle.c_tree.specs.declared.program.HlsKind.{HlsKind}
 use Rattle.c_tree.specs.declared.syntax.Declaration.{Declaration}
 use Rattle.c_types.specs.Declarations.{declared, declaration_outline, declaration_made}

@@ -1,9 +1,9 @@
 -- The arguments of MPI functions against the rows of the table.
 use Rattle.std.specs.Prelude.{Bool, true, false, not, ◌&&◌, ◌||◌, List, [], ◌∷◌, Option, None, Some}
-use Rattle.mpc_base.specs.declared.values.Datatype.{Datatype}
-use Rattle.mpc_base.specs.declared.values.Datatype.TheVariants as datatype
-use Rattle.mpc_base.specs.declared.values.Op.{Op}
-use Rattle.mpc_base.specs.declared.values.Op.TheVariants as op
+use Rattle.mpc_values.specs.declared.values.Datatype.{Datatype}
+use Rattle.mpc_values.specs.declared.values.Datatype.TheVariants as datatype
+use Rattle.mpc_values.specs.declared.values.Op.{Op}
+use Rattle.mpc_values.specs.declared.values.Op.TheVariants as op
 use Rattle.c_tree.specs.declared.syntax.Base.{Base}
 use Rattle.c_tree.specs.declared.syntax.Base.TheVariants as base
 use Rattle.c_tree.specs.declared.mpi.MpiFunction.{MpiFunction}

@@ -1,9 +1,9 @@
 -- Constant expressions (C99, section 6.6): their types and values. What is not evaluated has to be constant too, but
 -- may have a fault.
 use Rattle.std.specs.Prelude.{ℕ, ℤ, pos, Bool, true, false, cond, not, ◌&&◌, List, [], ◌∷◌, ◌++◌, length, replicate, nat_le, Option, None, Some, option_map, option_and_then, ◌-◌, Result, Ok, Err}
-use Rattle.mpc_base.specs.declared.faults.Fault.{Fault}
-use Rattle.mpc_base.specs.declared.values.Word.{Word}
-use Rattle.mpc_base.specs.declared.values.Word.TheVariants as word
+use Rattle.mpc_values.specs.declared.faults.Fault.{Fault}
+use Rattle.mpc_values.specs.declared.values.Word.{Word}
+use Rattle.mpc_values.specs.declared.values.Word.TheVariants as word
 use Rattle.c_tree.specs.declared.program.Width.{Width}
 use Rattle.c_tree.specs.declared.program.Operation.{Operation}
 use Rattle.c_tree.specs.declared.program.Operation.TheVariants as operation

@@ -3,7 +3,7 @@ use Rattle.std.specs.Prelude.{ℕ, Bool, false, List, [], ◌∷◌, is_some, Op
 use Rattle.std.specs.FinMap as map
 use Rattle.std.specs.Ordering.{nat_cmp}
 use Rattle.std.specs.Cmp.Lexicographic.{slice_cmp}
-use Rattle.mpc_base.specs.declared.owners.StaticVar.{StaticVar}
+use Rattle.mpc_values.specs.declared.owners.StaticVar.{StaticVar}
 use Rattle.c_tree.specs.declared.program.Construct.{Construct}
 use Rattle.c_types.specs.declared.kinds.Kind.{Kind}
 use Rattle.c_types.specs.declared.kinds.Decl.{Decl}

@@ -2,8 +2,8 @@
 use Rattle.std.specs.Prelude.{ℕ, Bool, List, refl}
 use Rattle.std.specs.Coded.{Coded, coded_ℕ, coded_bool, coded_list, coded×, code_by}
 use Rattle.std.specs.FinMap as map
-use Rattle.mpc_base.specs.declared.owners.StaticVar.{StaticVar}
-use Rattle.mpc_base.specs.contracts.owners.StaticVar as variable
+use Rattle.mpc_values.specs.declared.owners.StaticVar.{StaticVar}
+use Rattle.mpc_values.specs.contracts.owners.StaticVar as variable
 use Rattle.c_tree.specs.declared.program.Construct.{Construct}
 use Rattle.c_tree.specs.contracts.program.Construct as construct
 use Rattle.c_types.specs.declared.kinds.Kind.{Kind}

@@ -1,8 +1,8 @@
 -- The known names: those of MPI that programs may use, of printf, and of malloc.
 use Rattle.std.specs.Prelude.{ℤ, pos, negsuc, cond, List, [], ◌∷◌, Option, None, Some, option_map, codes, bytes_eq}
-use Rattle.mpc_base.specs.declared.values.Word.TheVariants as word
-use Rattle.mpc_base.specs.declared.values.Datatype.TheVariants as datatype
-use Rattle.mpc_base.specs.declared.values.Op.TheVariants as op
+use Rattle.mpc_values.specs.declared.values.Word.TheVariants as word
+use Rattle.mpc_values.specs.declared.values.Datatype.TheVariants as datatype
+use Rattle.mpc_values.specs.declared.values.Op.TheVariants as op
 use Rattle.c_tree.specs.declared.syntax.Base.TheVariants as base
 use Rattle.c_tree.specs.MpiTable.{mpi_named}
 use Rattle.c_types.specs.declared.kinds.Kind.TheVariants.{Plain, Null}

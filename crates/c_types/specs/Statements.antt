@@ -1,8 +1,8 @@
 -- Statements: the names behind them, what the rules read of them, and their typed form.
 use Rattle.std.specs.Prelude.{ℕ, nat_eq, nat_le, Bool, true, false, cond, not, ◌&&◌, ◌||◌, List, [], ◌∷◌, ◌++◌, length, slice_get, Option, None, Some, is_some, unwrap_or}
-use Rattle.mpc_base.specs.declared.owners.Level.{Level}
-use Rattle.mpc_base.specs.declared.owners.Level.TheVariants as level
-use Rattle.mpc_base.specs.declared.owners.StaticVar.{StaticVar}
+use Rattle.mpc_values.specs.declared.owners.Level.{Level}
+use Rattle.mpc_values.specs.declared.owners.Level.TheVariants as level
+use Rattle.mpc_values.specs.declared.owners.StaticVar.{StaticVar}
 use Rattle.c_tree.specs.declared.program.HlsKind.{HlsKind}
 use Rattle.c_tree.specs.declared.program.HlsKind.TheVariants as hls
 use Rattle.c_tree.specs.Programs as p

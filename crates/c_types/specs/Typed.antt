@@ -1,9 +1,9 @@
 -- The typed form of expressions. It is spoken of only where no rule is broken.
 use Rattle.std.specs.Prelude.{ℕ, pos, Bool, true, false, cond, ◌||◌, List, [], ◌∷◌, Option, None, Some, slice_get, unwrap_or, codes, bytes_eq}
-use Rattle.mpc_base.specs.declared.values.Word.TheVariants as word
-use Rattle.mpc_base.specs.declared.values.Obj.TheVariants.{Glob}
-use Rattle.mpc_base.specs.declared.values.Datatype.{Datatype}
-use Rattle.mpc_base.specs.declared.values.Datatype.TheVariants as datatype
+use Rattle.mpc_values.specs.declared.values.Word.TheVariants as word
+use Rattle.mpc_values.specs.declared.values.Obj.TheVariants.{Glob}
+use Rattle.mpc_values.specs.declared.values.Datatype.{Datatype}
+use Rattle.mpc_values.specs.declared.values.Datatype.TheVariants as datatype
 use Rattle.c_tree.specs.declared.formats.Piece.{Piece}
 use Rattle.c_tree.specs.declared.mpi.Argument.{Argument}
 use Rattle.c_tree.specs.declared.mpi.Argument.TheVariants as argument

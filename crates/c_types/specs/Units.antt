@@ -1,8 +1,8 @@
 -- Functions, directives and whole units: what they declare, what the rules read of them, and the typed program.
 use Rattle.std.specs.Prelude.{ℕ, ◌+◌, Bool, true, false, cond, not, ◌&&◌, ◌||◌, List, [], ◌∷◌, ◌++◌, length, map, set, take, slice_get, Option, None, Some, is_some, unwrap_or, codes, bytes_eq}
 use Rattle.std.specs.FinMap as fin
-use Rattle.mpc_base.specs.declared.owners.Level.{Level}
-use Rattle.mpc_base.specs.declared.owners.StaticVar.{StaticVar}
+use Rattle.mpc_values.specs.declared.owners.Level.{Level}
+use Rattle.mpc_values.specs.declared.owners.StaticVar.{StaticVar}
 use Rattle.c_tree.specs.declared.program.Ending.{Ending}
 use Rattle.c_tree.specs.declared.program.Ending.TheVariants as ending
 use Rattle.c_tree.specs.declared.syntax.Base.TheVariants as base

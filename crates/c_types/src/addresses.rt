@@ -12,7 +12,7 @@ use c_tree::mpi::MpiFunction;
 use c_tree::syntax::{
     Base, Declaration, Declarator, Expr, ForHead, Initializer, Param, Stmt, Unary,
 };
-use mpc_base::Memory;
+use mpc_values::Memory;
 use std::alloc::Global;
 use std::marker::Model;
 

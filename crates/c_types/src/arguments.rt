@@ -8,7 +8,7 @@ use crate::agreement::{disagrees, is_no_number};
 use crate::kinds::{Given, Kind};
 use c_tree::mpi::{Argument, MpiFunction};
 use c_tree::syntax::Base;
-use mpc_base::{Datatype, Op};
+use mpc_values::{Datatype, Op};
 
 /// Each argument agrees with its parameter, and there are as many (C99, section 6.5.2.2).
 pub fn all_agree(dues: &[Kind], given: &[Option<Kind>]) -> bool

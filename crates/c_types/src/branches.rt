@@ -17,7 +17,7 @@ use crate::refusals::TypeRefusal;
 use crate::shapes::{Shape, StatementShape};
 use c_tree::program::{Expr, Stmt};
 use c_tree::syntax::Place;
-use mpc_base::Memory;
+use mpc_values::Memory;
 use std::alloc::Global;
 
 /// A block of these items.

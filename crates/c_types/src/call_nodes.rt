@@ -31,7 +31,7 @@ use c_tree::formats::Format;
 use c_tree::mpi::MpiFunction;
 use c_tree::program::{Callee, Expr, MpiCall};
 use c_tree::syntax;
-use mpc_base::{Datatype, Memory};
+use mpc_values::{Datatype, Memory};
 use std::alloc::Global;
 use syntax::Base;
 

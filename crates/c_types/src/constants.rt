@@ -14,7 +14,7 @@ use c_tree::arithmetic::{compare, complement, compute, negate, wrap};
 use c_tree::program::{Comparison, Operation, Width};
 use c_tree::syntax::{Base, Binary, Expr, Initializer, TypeName, Unary};
 use c_tree::words::{holds, same_word, truth};
-use mpc_base::{Memory, Word};
+use mpc_values::{Memory, Word};
 use std::alloc::Global;
 
 // A word read as a number.

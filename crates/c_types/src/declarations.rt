@@ -1,6 +1,6 @@
 //! Declarations of variables: what they declare, the first refusal, and the statements that they leave.
 ghost use Rattle.std.specs.Prelude.{◌≡◌, ◌≤◌, ◌<◌, ◌+◌, ◌^◌, IfOk, OnOk, IfSome, Option, List, [], false, map, unwrap_or};
-ghost use Rattle.mpc_base.specs.declared.values.Word.{Word};
+ghost use Rattle.mpc_values.specs.declared.values.Word.{Word};
 ghost use Rattle.c_tree.specs.ProgramOf as program;
 ghost use Rattle.c_tree.specs.SyntaxOf.{declarator_of, declaration_of, initializer_of};
 ghost use Rattle.c_types.specs.Declarations as declarations;
@@ -23,7 +23,7 @@ use crate::shapes::{Declared, Initial, ItemShape, Shape};
 use crate::variables::{declared_kind, element_kind, is_array, object_words, variable_of};
 use c_tree::program::{Expr, Stmt};
 use c_tree::syntax::{Base, Declaration, Declarator, Initializer};
-use mpc_base::{Memory, StaticVar, Word, Words};
+use mpc_values::{Memory, StaticVar, Word, Words};
 use std::alloc::Global;
 
 const STATIC_VARIABLES: usize = 4096;

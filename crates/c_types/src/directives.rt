@@ -13,7 +13,7 @@ use crate::refusals::TypeRefusal;
 use crate::shapes::{ItemShape, Shape};
 use c_tree::Identifier;
 use c_tree::syntax::{Base, Place};
-use mpc_base::{Level, StaticVar};
+use mpc_values::{Level, StaticVar};
 
 // An int or long variable or array.
 fn may_be_shared(variable: Variable) -> bool

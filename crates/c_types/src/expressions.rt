@@ -28,7 +28,7 @@ use crate::shapes::{OperandShape, Shape};
 use c_tree::mpi::Argument;
 use c_tree::program;
 use c_tree::syntax::{Base, Binary, Expr};
-use mpc_base::{Memory, Word};
+use mpc_values::{Memory, Word};
 use std::alloc::Global;
 
 // The pointer that a malloc on the right of an assignment is for; a computing one is for none.

@@ -10,7 +10,7 @@ use crate::kinds::Kind;
 use c_tree::formats::{Format, Piece};
 use c_tree::program::Width;
 use c_tree::syntax::Base;
-use mpc_base::{Memory, Text};
+use mpc_values::{Memory, Text};
 use std::alloc::Global;
 use std::mem;
 

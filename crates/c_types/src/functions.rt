@@ -25,7 +25,7 @@ use crate::statements::pass_items;
 use c_tree::program;
 use c_tree::program::{Ending, Params};
 use c_tree::syntax::{Body, Function, Param};
-use mpc_base::Memory;
+use mpc_values::Memory;
 use std::alloc::Global;
 
 // The function among those that are declared.

@@ -3,7 +3,7 @@ ghost use Rattle.std.specs.Prelude.{◌≡◌};
 
 use c_tree::mpi::MpiFunction;
 use c_tree::syntax::Base;
-use mpc_base::{Datatype, Op, Word};
+use mpc_values::{Datatype, Op, Word};
 use std::marker::Model;
 
 /// The type of a value (C99, section 6.2.5).

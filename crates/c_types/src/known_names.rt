@@ -6,7 +6,7 @@ ghost use Rattle.c_types.specs.Keys.{by_text};
 use crate::kinds::{Kind, Known};
 use c_tree::mpi::MpiFunction;
 use c_tree::syntax::Base;
-use mpc_base::{Datatype, Op, Word};
+use mpc_values::{Datatype, Op, Word};
 
 /// The names that are no functions of MPI (MPI 3.1, annex A.1), and what they stand for.
 pub const OTHER_NAMES: [(&str, Known); 26] = [

@@ -10,7 +10,7 @@ use crate::meanings::{Meaning, meaning_of, operation_width};
 use crate::names::Names;
 use c_tree::program::{Comparison, Expr, Operation, Scalar, Update, Width};
 use c_tree::syntax::{Base, Binary, Change, TypeName, Unary};
-use mpc_base::{Memory, Obj, Word};
+use mpc_values::{Memory, Obj, Word};
 use std::alloc::Global;
 
 pub fn undefined() -> Expr

@@ -5,7 +5,7 @@ ghost use Rattle.c_types.specs.Env.{find, put, in_top, enter_scope, leave_scope}
 use crate::kinds::{Decl, Kind, Sig};
 use crate::scopes::{Scope, Scopes};
 use c_tree::program::Construct;
-use mpc_base::{Memory, StaticVar};
+use mpc_values::{Memory, StaticVar};
 use std::alloc::Global;
 use std::marker::Model;
 

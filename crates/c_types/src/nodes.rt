@@ -30,7 +30,7 @@ use crate::rules::kind;
 use crate::shapes::{OperandShape, OperatorShape, Shape};
 use c_tree::program::Expr;
 use c_tree::syntax::{Base, Binary, Change, TypeName, Unary};
-use mpc_base::Memory;
+use mpc_values::Memory;
 use std::alloc::Global;
 
 /// What is found of an expression: its type, if it has one, and its typed form or the first refusal in it.

@@ -8,7 +8,7 @@ ghost use Rattle.c_types.specs.Rules as rules;
 use crate::refusals::TypeRefusal;
 use crate::rules::rule;
 use crate::shapes::Shape;
-use mpc_base::Memory;
+use mpc_values::Memory;
 
 /// A node's own rule comes before what stands in it.
 pub fn blamed<A: Drop>(

@@ -4,7 +4,7 @@ ghost use Rattle.std.specs.FinMap as map;
 ghost use Rattle.c_types.specs.Env.{find, put, in_top, enter, leave};
 
 use crate::kinds::Decl;
-use mpc_base::Memory;
+use mpc_values::Memory;
 use std::alloc::Global;
 use std::collections::BTreeMap;
 use std::marker::Model;

@@ -7,7 +7,7 @@ use crate::kinds::{Decl, Escapes, Home};
 use crate::names::Names;
 use c_tree::Identifier;
 use c_tree::program::HlsKind;
-use mpc_base::Level;
+use mpc_values::Level;
 
 fn rank(level: Level) -> u8
     ensures { result ≡ statements.rank level }

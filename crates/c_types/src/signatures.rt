@@ -7,7 +7,7 @@ use crate::agreement::same_kind;
 use crate::kinds::{Decl, Kind, Kinds, Sig};
 use crate::names::Names;
 use c_tree::syntax::{Base, Function, Item, Param, ParamType, Returns, TypeName};
-use mpc_base::Memory;
+use mpc_values::Memory;
 use std::alloc::Global;
 
 fn type_kind(name: TypeName) -> Kind

@@ -24,7 +24,7 @@ use crate::sharing::levels_of;
 use c_tree::program::{Construct, HlsKind, Stmt};
 use c_tree::syntax::{Declaration, Expr, ForHead, Place};
 use c_tree::{Identifiers, program, syntax};
-use mpc_base::{Level, Memory};
+use mpc_values::{Level, Memory};
 use std::alloc::Global;
 
 /// What a pass over an expression finds, where there is one.

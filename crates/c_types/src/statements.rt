@@ -26,7 +26,7 @@ use crate::simple_statements::{
 use c_tree::program::Stmt;
 use c_tree::syntax::{Expr, ForHead, Place};
 use c_tree::{Identifiers, syntax};
-use mpc_base::Memory;
+use mpc_values::Memory;
 use std::alloc::Global;
 
 #[cycle(pass)]

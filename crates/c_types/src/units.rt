@@ -23,7 +23,7 @@ use crate::signatures::{has_body, has_main, numbered};
 use c_tree::program::{Constructs, Function, Program};
 use c_tree::syntax::{Item, Tree};
 use c_tree::{Globals, Identifier};
-use mpc_base::Memory;
+use mpc_values::Memory;
 use std::alloc::Global;
 
 // How many file-scope variables there are.

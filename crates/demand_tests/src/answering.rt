@@ -1,6 +1,6 @@
 //! How a table writes an answer, which is as the journal writes it.
 
-use mpc_base::{Answer, Obj, Status, Way, Word};
+use mpc_values::{Answer, Obj, Status, Way, Word};
 
 fn obj_of(text: &str) -> Option<Obj> {
     if let Some(number) = text.strip_prefix('g') {

@@ -3,7 +3,7 @@ ghost use Rattle.std.specs.Prelude.{◌≡◌};
 ghost use Rattle.c_tree.specs.Asking as asking;
 ghost use Rattle.task_vm.specs.Tasks.{ends_task};
 
-use mpc_base::{Answer, Call};
+use mpc_values::{Answer, Call};
 
 /// Whether an answer is one of the call's kind.
 pub fn fits(call: &Call, answer: &Answer) -> bool

@@ -13,7 +13,7 @@ use c_lex::lex;
 use c_parse::parse;
 use c_tree::program::Program;
 use c_types::check;
-use mpc_base::{Answer, Call};
+use mpc_values::{Answer, Call};
 use std::alloc::Global;
 use std::process::Abort;
 use std::sync::Arc;

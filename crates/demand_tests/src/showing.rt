@@ -1,6 +1,6 @@
 //! How a table writes a call: its name in the table of calls, and its fields in order. A word is written as
 //! the journal writes it, and `undef` where nothing was stored.
-use mpc_base::{Call, Coll, Obj, Text, Word};
+use mpc_values::{Call, Coll, Obj, Text, Word};
 use std::alloc::{AllocError, Global};
 
 fn shown_obj(alloc: Global, obj: Obj) -> Result<String, AllocError> {

@@ -4,8 +4,8 @@ use Rattle.std.proofs.lemmas.Bool.Decides.{nat_tests}
 use Rattle.std.proofs.lemmas.Slice.Eq.{bytes_eq-Decides}
 use Rattle.std.specs.Option.{option_map}
 use Rattle.std.specs.Str.{bytes_eq}
-use Rattle.mpc_base.specs.declared.owners.Level.{Level}
-use Rattle.mpc_base.specs.declared.owners.Level.TheVariants as level
+use Rattle.mpc_values.specs.declared.owners.Level.{Level}
+use Rattle.mpc_values.specs.declared.owners.Level.TheVariants as level
 use Rattle.hls_pragma.specs.declared.directives.NameSpan.{NameSpan}
 use Rattle.hls_pragma.specs.declared.directives.Pragma.{Pragma}
 use Rattle.hls_pragma.specs.declared.directives.Pragma.TheVariants.{Scope, Single, Barrier, Foreign}

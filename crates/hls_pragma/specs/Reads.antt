@@ -1,7 +1,7 @@
 -- Which directive a line says.
 use Rattle.std.specs.Prelude.{◌≡◌, ℕ, Bool, true, false, List, [], ◌∷◌, ◌++◌, codes, slice_index}
-use Rattle.mpc_base.specs.declared.owners.Level.{Level}
-use Rattle.mpc_base.specs.declared.owners.Level.TheVariants as level
+use Rattle.mpc_values.specs.declared.owners.Level.{Level}
+use Rattle.mpc_values.specs.declared.owners.Level.TheVariants as level
 use Rattle.hls_pragma.specs.declared.directives.NameSpan.{NameSpan}
 use Rattle.hls_pragma.specs.declared.directives.Pragma.{Pragma}
 use Rattle.hls_pragma.specs.declared.directives.Pragma.TheVariants.{Scope, Single, Barrier, Foreign}

@@ -1,7 +1,7 @@
 //! Directives, and the names that they list.
 ghost use Rattle.std.specs.Prelude.{◌≡◌};
 
-use mpc_base::Level;
+use mpc_values::Level;
 use std::marker::Model;
 
 /// A name in a line: its bytes are the `len` bytes from `start` on.

@@ -3,7 +3,7 @@ ghost use Rattle.std.specs.Prelude.{◌≡◌, ◌++◌, IfOk, OnOk};
 ghost use Rattle.hls_pragma.specs.Items.{is_word_byte as word_byte, is_blank as blank, is_letter as letter, sign_of, word_of, item_of, items_of};
 
 use crate::directives::NameSpan;
-use mpc_base::Memory;
+use mpc_values::Memory;
 use std::alloc::Global;
 
 /// A word or a sign of a line.

@@ -9,7 +9,7 @@ ghost use Rattle.hls_pragma.specs.Spans.{InOrder, names_of};
 
 use crate::directives::{NameSpan, Names, Pragma, PragmaRefusal};
 use crate::items::{Item, is_letter, items};
-use mpc_base::{Level, Memory};
+use mpc_values::{Level, Memory};
 use std::alloc::Global;
 
 // Whether a name begins with a letter or an underscore.

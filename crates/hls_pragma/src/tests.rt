@@ -1,6 +1,6 @@
 //! Lines and what they say, worked out by hand.
 use crate::{NameSpan, Names, Pragma, read_pragma};
-use mpc_base::{Level, Memory};
+use mpc_values::{Level, Memory};
 use std::alloc::Global;
 use std::test::Fail;
 

@@ -3,7 +3,7 @@ use Rattle.std.specs.Prelude.{ℕ, ◌+◌, ◌-◌, slice_get, ◌==◌, if◌t
 use Rattle.std.specs.Fmt.{decimal, signed_decimal}
 use Rattle.mpc_base.specs.declared.journals.End.{End}
 use Rattle.mpc_base.specs.declared.journals.End.TheVariants as end
-use Rattle.mpc_base.specs.CallTable.{fault_name}
+use Rattle.mpc_values.specs.CallTable.{fault_name}
 use Rattle.run_model.specs.declared.records.RankEnd.{RankEnd}
 use Rattle.run_model.specs.declared.records.RankState.{RankState}
 use Rattle.run_model.specs.declared.records.RankState.TheVariants as rank

@@ -4,14 +4,14 @@ use Rattle.std.specs.Ordering.{nat_cmp, eq_by_cmp}
 use Rattle.std.specs.Cmp.Lexicographic.{slice_cmp}
 use Rattle.std.proofs.lemmas.Cmp.{nat_list_cmp_total}
 use Rattle.std.specs.FinMap as map
-use Rattle.mpc_base.specs.declared.values.Word.{Word}
-use Rattle.mpc_base.specs.declared.values.Word.TheVariants.{Undef, Int, Null, Ptr, Comm, Req}
-use Rattle.mpc_base.specs.declared.values.Obj.{Obj}
-use Rattle.mpc_base.specs.declared.values.Obj.TheVariants.{Glob, Dyn}
-use Rattle.mpc_base.specs.declared.owners.Owner.{Owner}
-use Rattle.mpc_base.specs.declared.owners.Owner.TheVariants.{Task}
-use Rattle.mpc_base.specs.declared.answers.Answer.TheVariants.{Gives}
-use Rattle.mpc_base.specs.declared.faults.Fault.TheVariants.{Bounds, Dangling, StackFull}
+use Rattle.mpc_values.specs.declared.values.Word.{Word}
+use Rattle.mpc_values.specs.declared.values.Word.TheVariants.{Undef, Int, Null, Ptr, Comm, Req}
+use Rattle.mpc_values.specs.declared.values.Obj.{Obj}
+use Rattle.mpc_values.specs.declared.values.Obj.TheVariants.{Glob, Dyn}
+use Rattle.mpc_values.specs.declared.owners.Owner.{Owner}
+use Rattle.mpc_values.specs.declared.owners.Owner.TheVariants.{Task}
+use Rattle.mpc_values.specs.declared.answers.Answer.TheVariants.{Gives}
+use Rattle.mpc_values.specs.declared.faults.Fault.TheVariants.{Bounds, Dangling, StackFull}
 use Rattle.memory_model.specs.declared.kinds.Kind.{Kind}
 use Rattle.memory_model.specs.declared.kinds.Kind.TheVariants.{Local, Block}
 use Rattle.memory_model.specs.Memory.{Memory, Object, key_of, object_of, with_object}

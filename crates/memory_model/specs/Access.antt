@@ -1,15 +1,15 @@
 -- What each access of memory does, or which fault it has.
 use Rattle.std.specs.Prelude.{ℕ, zero, suc, ℤ, pos, negsuc, ◌+◌, Bool, true, false, ◌==◌, ◌&&◌, nat_le, if◌then◌else◌, length, replicate, slice_get, slice_set, Option, Some, None}
-use Rattle.mpc_base.specs.declared.values.Word.{Word}
-use Rattle.mpc_base.specs.declared.values.Word.TheVariants.{Undef, Int, Null, Ptr, Comm, Req}
-use Rattle.mpc_base.specs.declared.values.Obj.{Obj}
-use Rattle.mpc_base.specs.declared.values.Obj.TheVariants.{Glob, Dyn}
-use Rattle.mpc_base.specs.declared.owners.Owner.{Owner}
-use Rattle.mpc_base.specs.declared.owners.Owner.TheVariants.{Task}
-use Rattle.mpc_base.specs.declared.answers.Answer.{Answer}
-use Rattle.mpc_base.specs.declared.answers.Answer.TheVariants.{Done, Gives}
-use Rattle.mpc_base.specs.declared.faults.Fault.{Fault}
-use Rattle.mpc_base.specs.declared.faults.Fault.TheVariants.{Uninit, NullAccess, Bounds, Dangling, StackFull}
+use Rattle.mpc_values.specs.declared.values.Word.{Word}
+use Rattle.mpc_values.specs.declared.values.Word.TheVariants.{Undef, Int, Null, Ptr, Comm, Req}
+use Rattle.mpc_values.specs.declared.values.Obj.{Obj}
+use Rattle.mpc_values.specs.declared.values.Obj.TheVariants.{Glob, Dyn}
+use Rattle.mpc_values.specs.declared.owners.Owner.{Owner}
+use Rattle.mpc_values.specs.declared.owners.Owner.TheVariants.{Task}
+use Rattle.mpc_values.specs.declared.answers.Answer.{Answer}
+use Rattle.mpc_values.specs.declared.answers.Answer.TheVariants.{Done, Gives}
+use Rattle.mpc_values.specs.declared.faults.Fault.{Fault}
+use Rattle.mpc_values.specs.declared.faults.Fault.TheVariants.{Uninit, NullAccess, Bounds, Dangling, StackFull}
 use Rattle.memory_model.specs.declared.kinds.Kind.{Kind}
 use Rattle.memory_model.specs.declared.kinds.Kind.TheVariants.{Static, Local, Block}
 use Rattle.memory_model.specs.Memory.{Memory, Object, object_of, with_object, without}

@@ -3,13 +3,13 @@ use Rattle.std.specs.Prelude.{ℕ, List, [], ◌∷◌, Option}
 use Rattle.std.specs.Ordering.{nat_cmp}
 use Rattle.std.specs.Cmp.Lexicographic.{slice_cmp}
 use Rattle.std.specs.FinMap as map
-use Rattle.mpc_base.specs.declared.values.Word.{Word}
-use Rattle.mpc_base.specs.declared.values.Obj.{Obj}
-use Rattle.mpc_base.specs.declared.values.Obj.TheVariants.{Glob, Dyn}
-use Rattle.mpc_base.specs.declared.owners.Level.{Level}
-use Rattle.mpc_base.specs.declared.owners.Level.TheVariants.{Core, L1, L2, L3, Numa, Node}
-use Rattle.mpc_base.specs.declared.owners.Owner.{Owner}
-use Rattle.mpc_base.specs.declared.owners.Owner.TheVariants.{Task, Inst}
+use Rattle.mpc_values.specs.declared.values.Word.{Word}
+use Rattle.mpc_values.specs.declared.values.Obj.{Obj}
+use Rattle.mpc_values.specs.declared.values.Obj.TheVariants.{Glob, Dyn}
+use Rattle.mpc_values.specs.declared.owners.Level.{Level}
+use Rattle.mpc_values.specs.declared.owners.Level.TheVariants.{Core, L1, L2, L3, Numa, Node}
+use Rattle.mpc_values.specs.declared.owners.Owner.{Owner}
+use Rattle.mpc_values.specs.declared.owners.Owner.TheVariants.{Task, Inst}
 use Rattle.memory_model.specs.declared.kinds.Kind.{Kind}
 
 abbrev pub level_number : Level → ℕ

@@ -1,10 +1,10 @@
 -- The names of the objects that a task makes.
 use Rattle.std.specs.Prelude.{◌≡◌, ◌<◌, ◌≤◌, ◌+◌, ℕ, ℤ, None}
-use Rattle.mpc_base.specs.declared.values.Word.{Word}
-use Rattle.mpc_base.specs.declared.values.Obj.{Obj}
-use Rattle.mpc_base.specs.declared.values.Obj.TheVariants.{Dyn}
-use Rattle.mpc_base.specs.declared.owners.Owner.{Owner}
-use Rattle.mpc_base.specs.declared.owners.Owner.TheVariants.{Task}
+use Rattle.mpc_values.specs.declared.values.Word.{Word}
+use Rattle.mpc_values.specs.declared.values.Obj.{Obj}
+use Rattle.mpc_values.specs.declared.values.Obj.TheVariants.{Dyn}
+use Rattle.mpc_values.specs.declared.owners.Owner.{Owner}
+use Rattle.mpc_values.specs.declared.owners.Owner.TheVariants.{Task}
 use Rattle.memory_model.specs.Memory.{object_of}
 use Rattle.memory_model.specs.Access.{Objects, Access, Answers, Breaks, load, store, new, malloc, drop, free}
 

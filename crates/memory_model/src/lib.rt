@@ -3,8 +3,8 @@
 #![tactic(auto)]
 
 ghost use Rattle.std.specs.Prelude.{◌≡◌, ℕ, Some, None};
-ghost use Rattle.mpc_base.specs.declared.values.Obj.{Obj};
-ghost use Rattle.mpc_base.specs.declared.owners.Owner.{Owner};
+ghost use Rattle.mpc_values.specs.declared.values.Obj.{Obj};
+ghost use Rattle.mpc_values.specs.declared.owners.Owner.{Owner};
 ghost use Rattle.memory_model.specs.Memory.{Memory, Object, key_of, object_of, with_object, without};
 ghost use Rattle.memory_model.specs.Access.{Objects};
 ghost use Rattle.memory_model.specs.Names.{NamesAreLeft, NamesLast};

@@ -2,7 +2,7 @@ ghost use Rattle.std.specs.Prelude.{◌≡◌, List, ℕ, length, take, ◌≤�
 ghost use Rattle.mpc_base.specs.Causes.{HasCause};
 ghost use Rattle.mpc_base.specs.Told.{Took};
 
-use crate::failures::Failed;
+use mpc_values::Failed;
 
 /// What takes the bytes that are written: the bytes taken so far, where it tells them, and a count of
 /// faults that never falls.

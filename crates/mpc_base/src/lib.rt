@@ -1,49 +1,41 @@
-//! What every layer shares: words and objects, calls and answers, the journal, small list types,
-//! and the traits through which a run meets the outside.
+//! What the runtime shares: the journal and how a run ends, the traits through which a run meets the
+//! outside, and jobs on threads. It hands on the names of the values below it.
 #![tactic(auto)]
 
-mod answers;
 mod byte_sink;
-mod calls;
-mod collectives;
 mod fail_list;
-mod failures;
-mod faults;
 mod file_store;
 mod histories;
 mod jobs;
 mod journals;
 mod late_spawner;
 mod listed_spawner;
-mod lists;
 mod mem_files;
 mod mem_sink;
-mod owners;
 mod paces;
+mod picks;
 mod spawners;
 mod thread_spawner;
-mod values;
 
-pub use answers::{Answer, Out, Status, Way};
 pub use byte_sink::Sink;
-pub use calls::Call;
-pub use collectives::{Coll, CollKind};
-pub use failures::{Failed, Memory};
-pub use faults::Fault;
 pub use file_store::{Files, ReadAnswer, WriteAnswer};
 pub use histories::Traced;
 pub use jobs::{Job, Started};
-pub use journals::{End, Entry, Journal};
+pub use journals::{
+    End, Entries, Entry, Journal, MapRow, MapRows, Out, RankEnd, RankEnds, RankState,
+};
 pub use late_spawner::LateSpawner;
 pub use listed_spawner::ListedSpawner;
-pub use lists::{Cores, Entries, Text, Words};
 pub use mem_files::MemFiles;
 pub use mem_sink::MemSink;
-pub use owners::{Level, Owner, StaticVar};
+pub use mpc_values::{
+    Answer, Call, Coll, CollKind, Cores, Datatype, Failed, Fault, Level, Memory, Obj, Op, Owner,
+    StaticVar, Status, Text, Way, Word, Words, limits,
+};
 pub use paces::{FreePace, Pace};
+pub use picks::Picks;
 pub use spawners::{Asked, Choice, Spawner};
 pub use thread_spawner::ThreadSpawner;
-pub use values::{Datatype, Obj, Op, Word};
 
 #[cfg(test)]
 mod outside_tests;

@@ -5,7 +5,7 @@ ghost use Rattle.mpc_base.specs.MemSinkSeen.{taken_by, finds_no_room};
 
 use crate::byte_sink::Sink;
 use crate::fail_list::FailList;
-use crate::failures::{Failed, Memory};
+use mpc_values::{Failed, Memory};
 use std::alloc::Global;
 use std::marker::Model;
 

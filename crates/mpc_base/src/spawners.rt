@@ -2,8 +2,8 @@ ghost use Rattle.std.specs.Prelude.{◌≡◌, ◌≤◌, ℕ, IfOk, IfSome};
 ghost use Rattle.mpc_base.specs.Causes.{HasCause, Rose};
 ghost use Rattle.mpc_base.specs.Starts.{job_of, ChoiceCounts, StartCounts, RoseByOne};
 
-use crate::failures::Failed;
 use crate::jobs::{Job, Kept, Started, StartedAs};
+use mpc_values::Failed;
 use std::snapshot::Snapshot;
 use std::sync::Wait;
 use std::thread;

@@ -5,11 +5,11 @@ use Rattle.std.specs.Ordering.{int_eq}
 use Rattle.std.proofs.lemmas.Bool.Decides.{Decides-int_eq}
 use Rattle.std.proofs.lemmas.List.Sums.{AllPass-from_list_all, list_all-from_AllPass}
 use Rattle.std.proofs.lemmas.List.Folds.{list_all_at}
-use Rattle.mpc_base.specs.declared.calls.Call.{Call}
-use Rattle.mpc_base.specs.declared.faults.Fault.{Fault}
-use Rattle.mpc_base.specs.declared.faults.Fault.TheVariants.{Calls}
-use Rattle.mpc_base.specs.declared.answers.Out.{Out}
-use Rattle.mpc_base.specs.declared.answers.Out.TheVariants.{Did, Broke}
+use Rattle.mpc_values.specs.declared.calls.Call.{Call}
+use Rattle.mpc_values.specs.declared.faults.Fault.{Fault}
+use Rattle.mpc_values.specs.declared.faults.Fault.TheVariants.{Calls}
+use Rattle.mpc_base.specs.declared.journals.Out.{Out}
+use Rattle.mpc_base.specs.declared.journals.Out.TheVariants.{Did, Broke}
 use Rattle.mpc_base.specs.declared.journals.Entry.{Entry}
 use Rattle.mpc_base.specs.declared.journals.End.{End}
 use Rattle.mpc_base.specs.declared.journals.End.TheVariants as end

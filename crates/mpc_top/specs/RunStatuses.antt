@@ -1,8 +1,8 @@
 -- What the exit status of a run says of the run.
 use Rattle.std.specs.Prelude.{◌≡◌, ◌≢◌, ◌↔◌, ℕ, ℤ, pos, List, [], ◌∷◌, ◌++◌, Option, Some, None}
 use Rattle.std.specs.List.{All, Any}
-use Rattle.mpc_base.specs.declared.answers.Out.{Out}
-use Rattle.mpc_base.specs.declared.answers.Out.TheVariants.{Did, Broke}
+use Rattle.mpc_base.specs.declared.journals.Out.{Out}
+use Rattle.mpc_base.specs.declared.journals.Out.TheVariants.{Did, Broke}
 use Rattle.mpc_base.specs.declared.journals.Entry.{Entry}
 use Rattle.mpc_base.specs.declared.journals.End.TheVariants as end
 use Rattle.run_model.specs.declared.records.RunRecord.{RunRecord}

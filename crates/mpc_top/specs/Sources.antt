@@ -1,7 +1,7 @@
 -- Which sources are accepted, and why others are refused.
 use Rattle.std.specs.Prelude.{◌≡◌, ◌≤◌, ◌<◌, ℕ, List, ◌++◌, length, codes, Option, Some, None, is_some, filter, false}
 use Rattle.std.specs.Fmt.{decimal}
-use Rattle.mpc_base.specs.declared.owners.StaticVar.{StaticVar}
+use Rattle.mpc_values.specs.declared.owners.StaticVar.{StaticVar}
 use Rattle.c_lex.specs.declared.tokens.Token.{Token}
 use Rattle.c_lex.specs.Lexed.{Lexed}
 use Rattle.c_lex.specs.Lexed as lexed

@@ -2,10 +2,10 @@
 use Rattle.std.specs.Prelude.{ℤ, pos, ◌+ℤ◌, Bool, ◌&&◌, ◌||◌, not, if◌then◌else◌, ◌*ℤ◌}
 use Rattle.std.specs.Int.{Width, w32, w64, int_max, int_min, int_wrap, int_bit_and, int_bit_or, int_bit_xor}
 use Rattle.std.specs.Ordering.{int_eq}
-use Rattle.mpc_base.specs.declared.values.Op.{Op}
-use Rattle.mpc_base.specs.declared.values.Op.TheVariants.{Max, Min, Sum, Prod, Land, Band, Lor, Bor, Lxor, Bxor}
-use Rattle.mpc_base.specs.declared.values.Datatype.{Datatype}
-use Rattle.mpc_base.specs.declared.values.Datatype.TheVariants.{Int, Long}
+use Rattle.mpc_values.specs.declared.values.Op.{Op}
+use Rattle.mpc_values.specs.declared.values.Op.TheVariants.{Max, Min, Sum, Prod, Land, Band, Lor, Bor, Lxor, Bxor}
+use Rattle.mpc_values.specs.declared.values.Datatype.{Datatype}
+use Rattle.mpc_values.specs.declared.values.Datatype.TheVariants.{Int, Long}
 
 -- an int has 32 bits, a long 64
 abbrev pub width_of : Datatype → Width

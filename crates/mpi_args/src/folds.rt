@@ -3,7 +3,7 @@ ghost use Rattle.std.specs.Prelude.{◌≡◌, ◌+ℤ◌, ◌*ℤ◌};
 ghost use Rattle.std.specs.Int.{w32, int_wrap};
 ghost use Rattle.mpi_args.specs.Folds.{fold_of, width_of, number_of};
 
-use mpc_base::{Datatype, Op};
+use mpc_values::{Datatype, Op};
 
 /// What an operation of a reduction makes of two numbers, the one of the lower rank first (MPI 3.1,
 /// section 5.9.2). MPI_SUM and MPI_PROD wrap in two's complement of the datatype, and the logical operations

@@ -1,5 +1,5 @@
 use crate::{fold, rank_fits, tag_fits};
-use mpc_base::{Datatype, Op};
+use mpc_values::{Datatype, Op};
 
 const INT_MIN: i64 = -2147483648;
 

@@ -3,7 +3,7 @@ ghost use Rattle.std.specs.Prelude.{◌≡◌, ◌+◌, ◌<◌, [], IfOk, OnOk,
 ghost use Rattle.mpi_queue.specs.Matching.{partner, without, posted, IsCounted};
 
 use crate::postings::{Posting, can_meet};
-use mpc_base::Memory;
+use mpc_values::Memory;
 use std::alloc::Global;
 use std::marker::Model;
 

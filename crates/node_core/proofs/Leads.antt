@@ -2,17 +2,17 @@
 use Rattle.std.proofs.Common.{◌≡◌, ◌≢◌, ◌≤◌, ◌+◌, ◌==◌, ◌||◌, ◌&&◌, ◌↔◌, ℕ, pos, Bool, true, false, nat_le, if◌then◌else◌, List, [], ◌∷◌, ◌++◌, length, slice_get, slice_set, Option, Some, None, refl, ap, sym, subst, ◌∙◌, arith, length-append}
 use Rattle.std.specs.List.{list_all}
 use Rattle.std.specs.Option.{is_some}
-use Rattle.mpc_base.specs.declared.values.Word.TheVariants.{Int}
-use Rattle.mpc_base.specs.declared.calls.Call.{Call}
-use Rattle.mpc_base.specs.declared.calls.Call.TheVariants as call
-use Rattle.mpc_base.specs.declared.answers.Answer.{Answer}
-use Rattle.mpc_base.specs.declared.answers.Answer.TheVariants.{Gives}
-use Rattle.mpc_base.specs.declared.answers.Out.{Out}
-use Rattle.mpc_base.specs.declared.answers.Out.TheVariants.{Did, Broke}
-use Rattle.mpc_base.specs.declared.faults.Fault.TheVariants.{Calls, OutputFull}
+use Rattle.mpc_values.specs.declared.values.Word.TheVariants.{Int}
+use Rattle.mpc_values.specs.declared.calls.Call.{Call}
+use Rattle.mpc_values.specs.declared.calls.Call.TheVariants as call
+use Rattle.mpc_values.specs.declared.answers.Answer.{Answer}
+use Rattle.mpc_values.specs.declared.answers.Answer.TheVariants.{Gives}
+use Rattle.mpc_base.specs.declared.journals.Out.{Out}
+use Rattle.mpc_base.specs.declared.journals.Out.TheVariants.{Did, Broke}
+use Rattle.mpc_values.specs.declared.faults.Fault.TheVariants.{Calls, OutputFull}
 use Rattle.mpc_base.specs.declared.journals.Entry.{Entry}
 use Rattle.mpc_base.specs.declared.journals.End.TheVariants.{Going}
-use Rattle.mpc_base.specs.CallTable.{call_number}
+use Rattle.mpc_values.specs.CallTable.{call_number}
 use Rattle.c_tree.specs.Asking.{Asks}
 use Rattle.c_tree.specs.Next.{next_of}
 use Rattle.c_tree.specs.ProgramOf.{program_of}

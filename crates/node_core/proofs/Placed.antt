@@ -4,9 +4,9 @@ use Rattle.std.proofs.lemmas.Bool.Decides.{nat_tests}
 use Rattle.std.specs.Ordering.{nat_cmp}
 use Rattle.std.specs.Cmp.Lexicographic.{slice_cmp}
 use Rattle.std.specs.FinMap as finite
-use Rattle.mpc_base.specs.declared.owners.StaticVar.{StaticVar}
-use Rattle.mpc_base.specs.declared.values.Obj.TheVariants.{Glob, Dyn}
-use Rattle.mpc_base.specs.declared.owners.Owner.TheVariants.{Task}
+use Rattle.mpc_values.specs.declared.owners.StaticVar.{StaticVar}
+use Rattle.mpc_values.specs.declared.values.Obj.TheVariants.{Glob, Dyn}
+use Rattle.mpc_values.specs.declared.owners.Owner.TheVariants.{Task}
 use Rattle.memory_model.specs.Memory.{Memory, Object, key_of, object_of, with_object, without}
 use Rattle.memory_model.specs.Access.{length_of, live_from, live_words}
 use Rattle.run_model.specs.World.{with_variables, first_memory}

@@ -1,11 +1,11 @@
 -- What a visit finds, as the model's step.
 use Rattle.std.proofs.Common.{◌≡◌, ℕ, true, false, Bool, ◌||◌, ◌&&◌, length, slice_index, arith, List, [], ◌∷◌, ◌++◌, Option, Some, None, refl, ap, sym, ◌∙◌, ◌≤◌}
 use Rattle.std.specs.Option.{is_some}
-use Rattle.mpc_base.specs.declared.calls.Call.{Call}
-use Rattle.mpc_base.specs.declared.answers.Answer.{Answer}
-use Rattle.mpc_base.specs.declared.answers.Out.{Out}
+use Rattle.mpc_values.specs.declared.calls.Call.{Call}
+use Rattle.mpc_values.specs.declared.answers.Answer.{Answer}
+use Rattle.mpc_base.specs.declared.journals.Out.{Out}
 use Rattle.mpc_base.specs.declared.journals.Entry.{Entry}
-use Rattle.mpc_base.specs.CallTable.{call_number}
+use Rattle.mpc_values.specs.CallTable.{call_number}
 use Rattle.c_tree.specs.Asking.{Asks}
 use Rattle.c_tree.specs.Next.{next_of}
 use Rattle.c_tree.specs.ProgramOf.{program_of}

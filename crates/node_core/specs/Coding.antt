@@ -2,8 +2,8 @@
 use Rattle.std.specs.Prelude.{ℕ, List, refl}
 use Rattle.std.specs.Coded.{Coded, code_by, coded×, coded_ℕ, coded_list}
 use Rattle.std.specs.FinMap as map
-use Rattle.mpc_base.specs.declared.values.Word.{Word}
-use Rattle.mpc_base.specs.contracts.values.Word as word
+use Rattle.mpc_values.specs.declared.values.Word.{Word}
+use Rattle.mpc_values.specs.contracts.values.Word as word
 use Rattle.memory_model.specs.declared.kinds.Kind.{Kind}
 use Rattle.memory_model.specs.contracts.kinds.Kind as kind
 use Rattle.memory_model.specs.Memory.{Memory, Object}

@@ -2,8 +2,8 @@
 -- they live, in the order of making.
 use Rattle.std.specs.Prelude.{ℕ, ◌+◌, List, [], ◌∷◌, Option, Some, None}
 use Rattle.std.specs.FinMap as map
-use Rattle.mpc_base.specs.declared.values.Obj.TheVariants.{Glob, Dyn}
-use Rattle.mpc_base.specs.declared.owners.Owner.TheVariants.{Task}
+use Rattle.mpc_values.specs.declared.values.Obj.TheVariants.{Glob, Dyn}
+use Rattle.mpc_values.specs.declared.owners.Owner.TheVariants.{Task}
 use Rattle.memory_model.specs.Memory.{Memory, Object, key_of}
 use Rattle.memory_model.specs.Access.{length_of}
 

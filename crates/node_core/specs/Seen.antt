@@ -1,8 +1,8 @@
 -- What the node's functions answer, as the words of the model.
 use Rattle.std.specs.Prelude.{ℕ, ℤ, List, Result, Ok, Err, Option}
-use Rattle.mpc_base.specs.declared.owners.Owner.TheVariants.{Task}
-use Rattle.mpc_base.specs.declared.answers.Answer.{Answer}
-use Rattle.mpc_base.specs.declared.faults.Fault.{Fault}
+use Rattle.mpc_values.specs.declared.owners.Owner.TheVariants.{Task}
+use Rattle.mpc_values.specs.declared.answers.Answer.{Answer}
+use Rattle.mpc_values.specs.declared.faults.Fault.{Fault}
 use Rattle.memory_model.specs.Access.{Range, Places, NoPlaces, Objects, Access, Answers, Breaks}
 use Rattle.run_model.specs.World.{TaskState}
 use Rattle.run_model.specs.Go.{Act, Does, Fails}

@@ -1,6 +1,6 @@
 -- The objects of a task by their numbers.
 use Rattle.std.specs.Prelude.{ℕ, ◌-◌, ◌==◌, if◌then◌else◌, List, slice_get, Option, Some, None}
-use Rattle.mpc_base.specs.declared.owners.StaticVar.{StaticVar}
+use Rattle.mpc_values.specs.declared.owners.StaticVar.{StaticVar}
 use Rattle.memory_model.specs.declared.kinds.Kind.TheVariants.{Static}
 use Rattle.memory_model.specs.Memory.{Object}
 

@@ -1,7 +1,7 @@
 -- What a visit of the task does and answers.
 use Rattle.std.specs.Prelude.{Bool, List, [], ◌∷◌, ◌++◌}
-use Rattle.mpc_base.specs.declared.answers.Out.{Out}
-use Rattle.mpc_base.specs.declared.answers.Out.TheVariants.{Did as DidOut, Broke}
+use Rattle.mpc_base.specs.declared.journals.Out.{Out}
+use Rattle.mpc_base.specs.declared.journals.Out.TheVariants.{Did as DidOut, Broke}
 use Rattle.mpc_base.specs.declared.journals.Entry.{Entry}
 use Rattle.run_model.specs.Go.{Step, Stays, Makes}
 use Rattle.node_core.specs.declared.node.Reply.{Reply}

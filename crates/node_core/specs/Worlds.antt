@@ -1,10 +1,10 @@
 -- The state of a node, as the world of the model.
 use Rattle.std.specs.Prelude.{◌≡◌, ℕ, List, [], ◌∷◌, ◌++◌, slice_get, slice_set, nat_le, if◌then◌else◌}
-use Rattle.mpc_base.specs.declared.calls.Call.{Call}
-use Rattle.mpc_base.specs.declared.answers.Answer.{Answer}
-use Rattle.mpc_base.specs.declared.answers.Out.{Out}
-use Rattle.mpc_base.specs.declared.answers.Out.TheVariants.{Did, Broke}
-use Rattle.mpc_base.specs.declared.faults.Fault.TheVariants.{Calls}
+use Rattle.mpc_values.specs.declared.calls.Call.{Call}
+use Rattle.mpc_values.specs.declared.answers.Answer.{Answer}
+use Rattle.mpc_base.specs.declared.journals.Out.{Out}
+use Rattle.mpc_base.specs.declared.journals.Out.TheVariants.{Did, Broke}
+use Rattle.mpc_values.specs.declared.faults.Fault.TheVariants.{Calls}
 use Rattle.run_model.specs.World.{World, TaskState}
 use Rattle.run_model.specs.Go.{Act, Does, Fails, act, answers_at, calls_limit}
 use Rattle.node_core.specs.Seen.{task_seen}

@@ -1,5 +1,5 @@
 ghost use Rattle.std.specs.Prelude.{ℕ, List};
-ghost use Rattle.mpc_base.specs.declared.calls.Call.{Call};
+ghost use Rattle.mpc_values.specs.declared.calls.Call.{Call};
 ghost use Rattle.mpc_base.specs.declared.journals.Entry.{Entry};
 ghost use Rattle.run_model.specs.declared.records.Setup.{Setup};
 ghost use Rattle.node_core.specs.VisitLaws.{AsksNext, VisitLaws, RunLaws};

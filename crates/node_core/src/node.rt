@@ -1,5 +1,5 @@
 ghost use Rattle.std.specs.Prelude.{◌≡◌, ◌≢◌, ◌≤◌, [], IfOk, OnOk, OnErr};
-ghost use Rattle.mpc_base.specs.CallTable.{call_number};
+ghost use Rattle.mpc_values.specs.CallTable.{call_number};
 ghost use Rattle.c_tree.specs.Asking.{Asks};
 ghost use Rattle.c_tree.specs.Next.{next_of};
 ghost use Rattle.c_tree.specs.ProgramOf.{program_of};

@@ -1,8 +1,8 @@
 ghost use Rattle.std.specs.Prelude.{◌≡◌, ◌<◌, ◌≤◌, ◌+◌, ◌-◌, ◌^◌, ◌∷◌, ◌++◌, [], length, map, replicate, IfOk, OnErr, MatchOption, Option, Some, None, slice_get, slice_set};
 ghost use Rattle.std.specs.Option.{option_copied};
-ghost use Rattle.mpc_base.specs.declared.values.Word.TheVariants.{Undef};
-ghost use Rattle.mpc_base.specs.declared.owners.Owner.TheVariants.{Task};
-ghost use Rattle.mpc_base.specs.declared.values.Obj.TheVariants.{Dyn};
+ghost use Rattle.mpc_values.specs.declared.values.Word.TheVariants.{Undef};
+ghost use Rattle.mpc_values.specs.declared.owners.Owner.TheVariants.{Task};
+ghost use Rattle.mpc_values.specs.declared.values.Obj.TheVariants.{Dyn};
 ghost use Rattle.memory_model.specs.Memory.{object_of, with_object, without};
 ghost use Rattle.memory_model.specs.Access.{with_word, live_words};
 ghost use Rattle.run_model.specs.World.{first_memory};

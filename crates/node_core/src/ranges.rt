@@ -1,5 +1,5 @@
 ghost use Rattle.std.specs.Prelude.{◌≡◌, ◌+◌, ◌≤◌, IfOk, length, Some};
-ghost use Rattle.mpc_base.specs.declared.owners.Owner.TheVariants.{Task};
+ghost use Rattle.mpc_values.specs.declared.owners.Owner.TheVariants.{Task};
 ghost use Rattle.memory_model.specs.Memory.{object_of};
 ghost use Rattle.memory_model.specs.Access.{range_of};
 ghost use Rattle.run_model.specs.World.{owner_of};

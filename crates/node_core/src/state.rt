@@ -1,6 +1,6 @@
 ghost use Rattle.std.specs.Prelude.{◌≡◌, ◌<◌, ◌≤◌, ◌-◌, ◌^◌, [], List, IfOk, OnErr};
-ghost use Rattle.mpc_base.specs.CallTable.{call_number};
-ghost use Rattle.mpc_base.specs.declared.answers.Answer.{Answer};
+ghost use Rattle.mpc_values.specs.CallTable.{call_number};
+ghost use Rattle.mpc_values.specs.declared.answers.Answer.{Answer};
 ghost use Rattle.run_model.specs.World.{first_memory, first_task};
 ghost use Rattle.run_model.specs.Go.{has_ended, visited, Makes, entry_of, calls_limit};
 ghost use Rattle.run_model.specs.Run.{ending};

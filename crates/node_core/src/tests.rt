@@ -1,6 +1,6 @@
 //! Tables of calls and what becomes of them, worked out by hand, and one whole run.
 ghost use Rattle.std.specs.Prelude.{◌≡◌, IfOk, [], pos};
-ghost use Rattle.mpc_base.specs.declared.calls.Call.TheVariants.{Finish};
+ghost use Rattle.mpc_values.specs.declared.calls.Call.TheVariants.{Finish};
 ghost use Rattle.c_tree.specs.Asking.{Asks};
 ghost use Rattle.c_tree.specs.Next.{next_of};
 ghost use Rattle.c_tree.specs.ProgramOf.{program_of};

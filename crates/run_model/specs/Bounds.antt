@@ -1,6 +1,6 @@
 -- How far a run of one task can have come.
 use Rattle.std.specs.Prelude.{◌≡◌, ◌≤◌, List, [], ◌∷◌, length, None}
-use Rattle.mpc_base.specs.declared.answers.Answer.{Answer}
+use Rattle.mpc_values.specs.declared.answers.Answer.{Answer}
 use Rattle.memory_model.specs.Names.{NamesAreLeft}
 use Rattle.run_model.specs.World.{TaskState}
 use Rattle.run_model.specs.Go.{calls_limit, objects_of}

@@ -1,17 +1,17 @@
 -- One step of one task.
 use Rattle.std.specs.Prelude.{ℕ, pos, ◌+◌, Bool, ◌||◌, if◌then◌else◌, List, [], ◌∷◌, ◌++◌, length, nat_le, slice_get, slice_index, slice_set, Option, Some, None, is_some}
 use Rattle.std.specs.List.{list_all}
-use Rattle.mpc_base.specs.declared.values.Word.TheVariants.{Int}
-use Rattle.mpc_base.specs.declared.calls.Call.{Call}
-use Rattle.mpc_base.specs.declared.calls.Call.TheVariants as call
-use Rattle.mpc_base.specs.declared.answers.Answer.{Answer}
-use Rattle.mpc_base.specs.declared.answers.Answer.TheVariants.{Gives}
-use Rattle.mpc_base.specs.declared.faults.Fault.{Fault}
-use Rattle.mpc_base.specs.declared.faults.Fault.TheVariants.{OutputFull, Calls}
-use Rattle.mpc_base.specs.declared.answers.Out.{Out}
-use Rattle.mpc_base.specs.declared.answers.Out.TheVariants.{Did, Broke}
+use Rattle.mpc_values.specs.declared.values.Word.TheVariants.{Int}
+use Rattle.mpc_values.specs.declared.calls.Call.{Call}
+use Rattle.mpc_values.specs.declared.calls.Call.TheVariants as call
+use Rattle.mpc_values.specs.declared.answers.Answer.{Answer}
+use Rattle.mpc_values.specs.declared.answers.Answer.TheVariants.{Gives}
+use Rattle.mpc_values.specs.declared.faults.Fault.{Fault}
+use Rattle.mpc_values.specs.declared.faults.Fault.TheVariants.{OutputFull, Calls}
+use Rattle.mpc_base.specs.declared.journals.Out.{Out}
+use Rattle.mpc_base.specs.declared.journals.Out.TheVariants.{Did, Broke}
 use Rattle.mpc_base.specs.declared.journals.Entry.{Entry}
-use Rattle.mpc_base.specs.CallTable.{call_number}
+use Rattle.mpc_values.specs.CallTable.{call_number}
 use Rattle.c_tree.specs.Asking.{Next, Asks, Over, Misfit}
 use Rattle.c_tree.specs.Next.{next_of}
 use Rattle.c_tree.specs.ProgramOf.{program_of}

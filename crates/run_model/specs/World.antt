@@ -1,12 +1,12 @@
 -- The world of a run: what separate processes, which share nothing but their declared variables, hold at one moment.
 use Rattle.std.specs.Prelude.{ℕ, ℤ, zero, suc, ◌+◌, List, [], ◌∷◌, replicate, Option, None}
 use Rattle.std.specs.FinMap as map
-use Rattle.mpc_base.specs.declared.values.Obj.{Obj}
-use Rattle.mpc_base.specs.declared.values.Obj.TheVariants.{Glob}
-use Rattle.mpc_base.specs.declared.owners.Owner.{Owner}
-use Rattle.mpc_base.specs.declared.owners.Owner.TheVariants.{Task}
-use Rattle.mpc_base.specs.declared.owners.StaticVar.{StaticVar}
-use Rattle.mpc_base.specs.declared.answers.Answer.{Answer}
+use Rattle.mpc_values.specs.declared.values.Obj.{Obj}
+use Rattle.mpc_values.specs.declared.values.Obj.TheVariants.{Glob}
+use Rattle.mpc_values.specs.declared.owners.Owner.{Owner}
+use Rattle.mpc_values.specs.declared.owners.Owner.TheVariants.{Task}
+use Rattle.mpc_values.specs.declared.owners.StaticVar.{StaticVar}
+use Rattle.mpc_values.specs.declared.answers.Answer.{Answer}
 use Rattle.memory_model.specs.declared.kinds.Kind.TheVariants.{Static}
 use Rattle.memory_model.specs.Memory.{Memory, with_object}
 use Rattle.run_model.specs.declared.records.Setup.{Setup}

@@ -1,9 +1,9 @@
 -- What a round leaves: what the code demands is what the program asks, and behind the answer the two are together again.
 use Rattle.std.proofs.Common.{◌≡◌, ◌≤◌, ◌==◌, ℕ, Bool, true, false, List, [], ◌∷◌, ◌++◌, length, refl, ap, sym, ◌∙◌, subst, arith}
-use Rattle.mpc_base.specs.declared.calls.Call.{Call}
-use Rattle.mpc_base.specs.declared.calls.Call.TheVariants as call
-use Rattle.mpc_base.specs.declared.answers.Answer.{Answer}
-use Rattle.mpc_base.specs.CallTable.{call_number}
+use Rattle.mpc_values.specs.declared.calls.Call.{Call}
+use Rattle.mpc_values.specs.declared.calls.Call.TheVariants as call
+use Rattle.mpc_values.specs.declared.answers.Answer.{Answer}
+use Rattle.mpc_values.specs.CallTable.{call_number}
 use Rattle.c_tree.specs.Asking as asking
 use Rattle.c_tree.specs.Next.{next_of}
 use Rattle.c_tree.specs.ProgramOf.{program_of}

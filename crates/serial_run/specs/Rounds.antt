@@ -1,6 +1,6 @@
 -- What holds while a task and a node run a program together.
 use Rattle.std.specs.Prelude.{◌≡◌, ◌+◌, ℕ, Bool, true, false, length}
-use Rattle.mpc_base.specs.declared.calls.Call.{Call}
+use Rattle.mpc_values.specs.declared.calls.Call.{Call}
 use Rattle.c_tree.specs.ProgramOf.{program_of}
 use Rattle.c_compile.specs.Correct.{Behaves}
 use Rattle.c_compile.specs.Plain.{is_plain}

@@ -1,6 +1,6 @@
 //! The rounds of a task and a node, up to the end of the run.
 ghost use Rattle.std.specs.Prelude.{◌≡◌, ◌==◌, [], IfOk, OnOk, true};
-ghost use Rattle.mpc_base.specs.CallTable.{call_number};
+ghost use Rattle.mpc_values.specs.CallTable.{call_number};
 ghost use Rattle.c_tree.specs.ProgramOf.{program_of};
 ghost use Rattle.c_compile.specs.Correct.{HasMain, Behaves};
 ghost use Rattle.c_compile.specs.Plain.{is_plain};

@@ -1,12 +1,12 @@
 -- Behind the answer to a call that is not its last, a machine goes on.
 use Rattle.std.proofs.Common.{◌≡◌, ℕ, true, false, List, [], ◌∷◌, ◌++◌, Option, Some, None, refl, sym, subst}
 use Rattle.std.specs.Prelude.{slice_get}
-use Rattle.mpc_base.specs.declared.values.Word.{Word}
-use Rattle.mpc_base.specs.declared.calls.Call.{Call}
-use Rattle.mpc_base.specs.declared.calls.Call.TheVariants as call
-use Rattle.mpc_base.specs.declared.answers.Answer.{Answer}
-use Rattle.mpc_base.specs.declared.answers.Way.{Way}
-use Rattle.mpc_base.specs.declared.answers.Way.TheVariants as way
+use Rattle.mpc_values.specs.declared.values.Word.{Word}
+use Rattle.mpc_values.specs.declared.calls.Call.{Call}
+use Rattle.mpc_values.specs.declared.calls.Call.TheVariants as call
+use Rattle.mpc_values.specs.declared.answers.Answer.{Answer}
+use Rattle.mpc_values.specs.declared.answers.Way.{Way}
+use Rattle.mpc_values.specs.declared.answers.Way.TheVariants as way
 use Rattle.c_tree.specs.Asking.{fits}
 use Rattle.c_tree.specs.Execution.{way_of}
 use Rattle.c_tree.specs.Scripts.{ends_run}

@@ -3,10 +3,10 @@ use Rattle.std.proofs.Common.{◌≡◌, ℕ, zero, suc, ◌+◌, ◌-◌, ◌*�
 use Rattle.std.specs.Prelude.{nat_lt, slice_get, slice_index_or}
 use Rattle.std.specs.Int.{int_wrap, w32}
 use Rattle.std.proofs.lemmas.Int.{SFits-int_wrap}
-use Rattle.mpc_base.specs.declared.values.Word.{Word}
-use Rattle.mpc_base.specs.declared.values.Word.TheVariants.{Undef, Int, Null, Ptr, Comm, Req}
-use Rattle.mpc_base.specs.declared.faults.Fault.{Fault}
-use Rattle.mpc_base.specs.declared.faults.Fault.TheVariants as fault
+use Rattle.mpc_values.specs.declared.values.Word.{Word}
+use Rattle.mpc_values.specs.declared.values.Word.TheVariants.{Undef, Int, Null, Ptr, Comm, Req}
+use Rattle.mpc_values.specs.declared.faults.Fault.{Fault}
+use Rattle.mpc_values.specs.declared.faults.Fault.TheVariants as fault
 use Rattle.c_tree.specs.declared.mpi.MpiFunction.{MpiFunction}
 use Rattle.c_tree.specs.declared.mpi.MpiFunction.TheVariants as f
 use Rattle.c_tree.specs.declared.program.Update.{Update}

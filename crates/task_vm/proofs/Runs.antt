@@ -1,7 +1,7 @@
 -- Steps of a task on its way to the next call.
 use Rattle.std.proofs.Common.{◌≡◌, ◌<◌, ◌^◌, Bool, List, Option, sym, subst}
-use Rattle.mpc_base.specs.declared.calls.Call.{Call}
-use Rattle.mpc_base.specs.declared.answers.Answer.{Answer}
+use Rattle.mpc_values.specs.declared.calls.Call.{Call}
+use Rattle.mpc_values.specs.declared.answers.Answer.{Answer}
 use Rattle.c_code.specs.FlatCode.{FlatCode}
 use Rattle.c_code.specs.Machine.{Mach, Moves, step}
 use Rattle.c_code.specs.Following.{Follows, NeverSticks}

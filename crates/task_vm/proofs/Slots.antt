@@ -1,7 +1,7 @@
 -- The slots of the functions that are open.
 use Rattle.std.proofs.Common.{◌≡◌, ℕ, suc, ◌+◌, List, [], ◌∷◌, length, refl, ap, ◌∙◌, take, drop, set, arith}
 use Rattle.std.proofs.lemmas.List.{take-set-le, drop-set-add}
-use Rattle.mpc_base.specs.declared.values.Word.{Word}
+use Rattle.mpc_values.specs.declared.values.Word.{Word}
 use Rattle.task_vm.specs.declared.frames.Caller.{Caller}
 use Rattle.task_vm.specs.Framed.{frames_in, framed}
 

@@ -1,6 +1,6 @@
 -- The slots of the functions that are open, as definitions see them.
 use Rattle.std.specs.Prelude.{ℕ, List, [], ◌∷◌, take, drop}
-use Rattle.mpc_base.specs.declared.values.Word.{Word}
+use Rattle.mpc_values.specs.declared.values.Word.{Word}
 use Rattle.c_code.specs.Machine.{Frame}
 use Rattle.task_vm.specs.declared.frames.Caller.{Caller}
 

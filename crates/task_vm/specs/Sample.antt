@@ -1,8 +1,8 @@
 -- The code that a test runs: it loads an int, and ends with whether it holds.
 use Rattle.std.specs.Prelude.{List, [], ◌∷◌}
-use Rattle.mpc_base.specs.declared.values.Word.{Word}
-use Rattle.mpc_base.specs.declared.values.Word.TheVariants.{Ptr}
-use Rattle.mpc_base.specs.declared.values.Obj.TheVariants.{Glob}
+use Rattle.mpc_values.specs.declared.values.Word.{Word}
+use Rattle.mpc_values.specs.declared.values.Word.TheVariants.{Ptr}
+use Rattle.mpc_values.specs.declared.values.Obj.TheVariants.{Glob}
 use Rattle.c_tree.specs.declared.program.Scalar.TheVariants.{Number}
 use Rattle.c_tree.specs.declared.program.Width.TheVariants as width
 use Rattle.c_code.specs.declared.instr.Instr.{Instr}

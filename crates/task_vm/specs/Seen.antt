@@ -1,6 +1,6 @@
 -- What a step shows of the machine before it and behind it.
 use Rattle.std.specs.Prelude.{◌≡◌, ℕ, ◌<◌, ◌^◌, Option, Some, None}
-use Rattle.mpc_base.specs.declared.calls.Call.{Call}
+use Rattle.mpc_values.specs.declared.calls.Call.{Call}
 use Rattle.c_code.specs.Machine.{Mach, Scripting, Stepped, Moves, Asks, Sticks, Behind, Goes, Ends}
 use Rattle.task_vm.specs.declared.machine.Step.{Step}
 use Rattle.task_vm.specs.declared.machine.Step.TheVariants.{Went, Asked, Stuck}

@@ -1,7 +1,7 @@
 -- What a task keeps between its calls.
 use Rattle.std.specs.Prelude.{◌≡◌, ℕ, Bool, true, false, List, Option, Some, None}
-use Rattle.mpc_base.specs.declared.calls.Call.{Call}
-use Rattle.mpc_base.specs.declared.answers.Answer.{Answer}
+use Rattle.mpc_values.specs.declared.calls.Call.{Call}
+use Rattle.mpc_values.specs.declared.answers.Answer.{Answer}
 use Rattle.c_code.specs.FlatCode.{FlatCode}
 use Rattle.c_code.specs.Machine.{Mach, resume}
 use Rattle.c_code.specs.Following.{Follows, AsksNow}

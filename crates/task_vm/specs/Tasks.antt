@@ -1,8 +1,8 @@
 -- What contracts see of a task.
 use Rattle.std.specs.Prelude.{◌≡◌, ℕ, Bool, true, false, List}
-use Rattle.mpc_base.specs.declared.calls.Call.{Call}
-use Rattle.mpc_base.specs.declared.calls.Call.TheVariants as call
-use Rattle.mpc_base.specs.declared.answers.Answer.{Answer}
+use Rattle.mpc_values.specs.declared.calls.Call.{Call}
+use Rattle.mpc_values.specs.declared.calls.Call.TheVariants as call
+use Rattle.mpc_values.specs.declared.answers.Answer.{Answer}
 use Rattle.c_tree.specs.Asking.{fits}
 use Rattle.c_code.specs.FlatCode.{FlatCode}
 use Rattle.c_code.specs.Machine.{Mach}

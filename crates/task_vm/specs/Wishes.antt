@@ -1,7 +1,7 @@
 -- What a step of a script wants, as code tells it.
 use Rattle.std.specs.Prelude.{◌≡◌, ◌+◌, ◌∷◌, pos, Some, None}
-use Rattle.mpc_base.specs.declared.values.Word.TheVariants.{Int}
-use Rattle.mpc_base.specs.declared.calls.Call.{Call}
+use Rattle.mpc_values.specs.declared.values.Word.TheVariants.{Int}
+use Rattle.mpc_values.specs.declared.calls.Call.{Call}
 use Rattle.c_tree.specs.Scripts as scripts
 use Rattle.c_code.specs.Machine.{Mach, Scripting, Stepped, Moves, Asks}
 use Rattle.task_vm.specs.declared.wishes.Wish.{Wish}

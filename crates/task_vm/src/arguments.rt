@@ -5,7 +5,7 @@ ghost use Rattle.c_tree.specs.Scripts as due;
 use crate::words::{comm_of, int_of, moved, pointer_of};
 use c_tree::program::MpiCall;
 use c_tree::scripts::{CollArguments, PostingArguments, Target};
-use mpc_base::{Call, Coll, CollKind, Datatype, Fault, Op, Word};
+use mpc_values::{Call, Coll, CollKind, Datatype, Fault, Op, Word};
 
 /// The argument of a number.
 fn argument(arguments: &[Word], number: u32) -> Word

@@ -1,7 +1,7 @@
 //! Instructions that ask a call.
 ghost use Rattle.std.specs.Prelude.{◌≡◌, IfOk, slice_index_or};
-ghost use Rattle.mpc_base.specs.declared.values.Word.TheVariants.{Undef};
-ghost use Rattle.mpc_base.specs.declared.calls.Call.TheVariants as call_;
+ghost use Rattle.mpc_values.specs.declared.values.Word.TheVariants.{Undef};
+ghost use Rattle.mpc_values.specs.declared.calls.Call.TheVariants as call_;
 ghost use Rattle.c_tree.specs.declared.program.Width.TheVariants.{Long};
 ghost use Rattle.c_tree.specs.Numbers.{number_of};
 ghost use Rattle.c_tree.specs.Words as of_words;
@@ -13,7 +13,7 @@ use crate::machine::{Machine, Step};
 use crate::printing::printed;
 use crate::words::{long_of, malloc_words, object_of, pointer_of};
 use c_code::Printed;
-use mpc_base::{Call, Memory};
+use mpc_values::{Call, Memory};
 
 // Asks a call that has no more than its instruction.
 pub(crate) fn ask(call: &mut Call, asked: Call, line: u32) -> Step

@@ -1,6 +1,6 @@
 //! What is found behind the answer to a step of a script.
 ghost use Rattle.std.specs.Prelude.{◌≡◌, [], ◌∷◌, ◌++◌, OnOk};
-ghost use Rattle.mpc_base.specs.declared.values.Word.TheVariants.{Int};
+ghost use Rattle.mpc_values.specs.declared.values.Word.TheVariants.{Int};
 ghost use Rattle.c_tree.specs.declared.program.Width.TheVariants as type_;
 ghost use Rattle.c_tree.specs.Numbers.{number_of};
 ghost use Rattle.c_tree.specs.Words as of_words;
@@ -10,7 +10,7 @@ ghost use Rattle.c_tree.specs.Scripts as due;
 use crate::scripts::Found;
 use crate::words::{comm_of, int_of, request_of};
 use c_tree::scripts::ScriptStep;
-use mpc_base::{Answer, Memory, Status, Word};
+use mpc_values::{Answer, Memory, Status, Word};
 use std::alloc::AllocError;
 
 /// The word that an answer gives.

@@ -1,9 +1,9 @@
 //! The slots of the functions that are open.
 ghost use Rattle.std.specs.Prelude.{◌≡◌, [], ◌∷◌, ◌++◌, length, slice_set, slice_index_or, OnOk, IfOk, IfSome, IfNone};
-ghost use Rattle.mpc_base.specs.declared.values.Word.TheVariants.{Undef};
+ghost use Rattle.mpc_values.specs.declared.values.Word.TheVariants.{Undef};
 ghost use Rattle.c_tree.specs.Execution.{slots_of};
 
-use mpc_base::{Memory, Word};
+use mpc_values::{Memory, Word};
 use std::alloc::Global;
 use std::marker::Model;
 

@@ -6,7 +6,7 @@ ghost use Rattle.task_vm.specs.Seen.{Shows};
 use crate::asking::ask;
 use crate::machine::{Machine, Step, breaks};
 use c_code::{Code, Instr};
-use mpc_base::{Call, Fault, Memory};
+use mpc_values::{Call, Fault, Memory};
 
 impl Machine {
     /// Takes the step of an instruction; of an MPI function's the script begins.

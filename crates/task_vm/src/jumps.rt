@@ -1,7 +1,7 @@
 //! Instructions that go elsewhere: jumps, turns, calls and returns.
 ghost use Rattle.std.specs.Prelude.{◌≡◌, ◌+◌, ◌-◌, ◌≤◌, ◌<◌, ◌^◌, ◌∷◌, Some, IfOk, OnOk, cond, nat_lt, length, drop, slice_get};
-ghost use Rattle.mpc_base.specs.declared.calls.Call.{Call};
-ghost use Rattle.mpc_base.specs.declared.faults.Fault.TheVariants as fault;
+ghost use Rattle.mpc_values.specs.declared.calls.Call.{Call};
+ghost use Rattle.mpc_values.specs.declared.faults.Fault.TheVariants as fault;
 ghost use Rattle.c_tree.specs.Words as of_words;
 ghost use Rattle.c_code.specs.Machine.{Moves, next, on_top, turned, entered, left, breaks as breaks_off, arguments_on, depth_limit};
 ghost use Rattle.task_vm.specs.Seen.{Shows};
@@ -10,7 +10,7 @@ use crate::machine::{Machine, Step, breaks};
 use crate::words::int_of;
 use c_code::{Code, Entry};
 use c_tree::words::holds;
-use mpc_base::{Call, Fault, Memory};
+use mpc_values::{Call, Fault, Memory};
 
 /// How many calls may wait for a function: 1,024 may be open.
 const MAX_WAITING: usize = 1023;

@@ -1,14 +1,14 @@
 //! Instructions on the stack and on locals.
 ghost use Rattle.std.specs.Prelude.{◌≡◌, ◌+◌, ◌<◌, ◌^◌, ◌∷◌, IfOk, slice_index_or, slice_set};
-ghost use Rattle.mpc_base.specs.declared.values.Word.TheVariants.{Undef};
-ghost use Rattle.mpc_base.specs.declared.calls.Call.{Call};
+ghost use Rattle.mpc_values.specs.declared.values.Word.TheVariants.{Undef};
+ghost use Rattle.mpc_values.specs.declared.calls.Call.{Call};
 ghost use Rattle.c_tree.specs.Words as of_words;
 ghost use Rattle.c_code.specs.Machine.{Moves, next, on_top, known_next};
 ghost use Rattle.task_vm.specs.Seen.{Shows};
 
 use crate::machine::{Machine, Step, breaks};
 use crate::words::pointer_of;
-use mpc_base::{Call, Fault, Memory, Word};
+use mpc_values::{Call, Fault, Memory, Word};
 
 impl Machine {
     pub(crate) fn push(&mut self, word: Word) -> Result<Step, Memory>

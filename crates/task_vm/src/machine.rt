@@ -4,7 +4,7 @@ ghost use Rattle.std.specs.Prelude.{◌≡◌, ◌+◌, ◌≤◌, ◌<◌, ◌^
 use crate::frames::Frames;
 use crate::scripts::Script;
 use crate::stack::Stack;
-use mpc_base::{Call, Fault, Memory, Word};
+use mpc_values::{Call, Fault, Memory, Word};
 use std::alloc::Global;
 use std::marker::Model;
 

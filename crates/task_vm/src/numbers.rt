@@ -1,8 +1,8 @@
 //! Instructions on numbers, pointers and conditions.
 ghost use Rattle.std.specs.Prelude.{◌≡◌, ℕ, ◌<◌, ◌^◌, List, ◌∷◌, not, cond};
-ghost use Rattle.mpc_base.specs.declared.values.Word.{Word};
-ghost use Rattle.mpc_base.specs.declared.values.Word.TheVariants.{Int};
-ghost use Rattle.mpc_base.specs.declared.calls.Call.{Call};
+ghost use Rattle.mpc_values.specs.declared.values.Word.{Word};
+ghost use Rattle.mpc_values.specs.declared.values.Word.TheVariants.{Int};
+ghost use Rattle.mpc_values.specs.declared.calls.Call.{Call};
 ghost use Rattle.c_tree.specs.declared.program.Width.TheVariants as type_;
 ghost use Rattle.c_tree.specs.Numbers.{number_of};
 ghost use Rattle.c_tree.specs.Arithmetic.{operated, negated, complemented, compared};
@@ -15,7 +15,7 @@ use crate::words::{elements, int_of, long_of, moved, number_of};
 use c_tree::arithmetic::{compare, complement, compute, negate, wrap};
 use c_tree::program::{Comparison, Operation, Update, Width};
 use c_tree::words::{holds, same_word, truth};
-use mpc_base::{Call, Fault, Word};
+use mpc_values::{Call, Fault, Word};
 
 // The new value of a variable, from the old one and the number on the right of a computing assignment.
 fn updated(update: Update, old: Word, right: Word) -> Result<Word, Fault>

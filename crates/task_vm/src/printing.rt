@@ -5,7 +5,7 @@ ghost use Rattle.c_tree.specs.Words as of_words;
 use crate::words::long_of;
 use c_tree::formats::{Format, Piece};
 use itoa::Buffer;
-use mpc_base::{Memory, Text, Word};
+use mpc_values::{Memory, Text, Word};
 use std::alloc::Global;
 
 /// The bytes of a format with its numbers in decimal.

@@ -1,6 +1,6 @@
 //! The script of an MPI function that is being taken.
 ghost use Rattle.std.specs.Prelude.{◌≡◌, Some, IfOk, OnOk, drop};
-ghost use Rattle.mpc_base.specs.declared.calls.Call.{Call};
+ghost use Rattle.mpc_values.specs.declared.calls.Call.{Call};
 ghost use Rattle.c_tree.specs.Scripts.{nothing_found, number_at};
 ghost use Rattle.c_tree.specs.MpiScripts.{steps_of, each_of, last_of};
 ghost use Rattle.c_code.specs.Machine as machine;
@@ -15,7 +15,7 @@ use crate::wishes::{Taken, Wish};
 use c_tree::mpi::MpiFunction;
 use c_tree::program::MpiCall;
 use c_tree::scripts::ScriptStep;
-use mpc_base::{Answer, Call, Fault, Memory, Status, Word};
+use mpc_values::{Answer, Call, Fault, Memory, Status, Word};
 use std::alloc::Global;
 use std::marker::Model;
 

@@ -1,7 +1,7 @@
 //! The stack of words.
 ghost use Rattle.std.specs.Prelude.{◌≡◌, ◌≤◌, [], ◌∷◌, length, drop, reverse, take, OnOk, IfSome, IfNone, MatchOption};
 
-use mpc_base::{Memory, Word};
+use mpc_values::{Memory, Word};
 use std::alloc::Global;
 use std::marker::Model;
 
@@ -13,7 +13,7 @@ pub(crate) struct Stack {
 
 impl Model for Stack {
     ghost use Rattle.std.specs.Prelude.{List, reverse};
-    ghost use Rattle.mpc_base.specs.declared.values.Word.{Word};
+    ghost use Rattle.mpc_values.specs.declared.values.Word.{Word};
 
     ghost Value = { List Word };
 

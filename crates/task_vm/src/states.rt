@@ -2,7 +2,7 @@
 ghost use Rattle.std.specs.Prelude.{◌≡◌};
 ghost use Rattle.task_vm.specs.States.{pending_of};
 
-use mpc_base::{Answer, Call};
+use mpc_values::{Answer, Call};
 
 /// What a task wants when it stops: a call, at a source line.
 #[derive(Debug, Drop)]

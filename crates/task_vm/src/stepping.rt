@@ -11,7 +11,7 @@ use crate::machine::{Machine, Step};
 use crate::wishes::Taken;
 use crate::words::{int_of, pointer_of, read_as};
 use c_code::{Code, Instr};
-use mpc_base::{Answer, Call, Memory, Way, Word};
+use mpc_values::{Answer, Call, Memory, Way, Word};
 
 impl Machine {
     // Takes a step of the script that is being taken. It stands apart, as all that is rare or long does, so that

@@ -1,8 +1,8 @@
 //! A task that runs code.
 ghost use Rattle.std.specs.Prelude.{◌≡◌, ℕ, true, false, List, [], ◌∷◌, ◌++◌, Some, IfOk, OnOk, OnErr, IsErr, slice_get};
 ghost use Rattle.std.specs.Arc.{arc_value};
-ghost use Rattle.mpc_base.specs.declared.calls.Call.{Call};
-ghost use Rattle.mpc_base.specs.declared.answers.Answer.{Answer};
+ghost use Rattle.mpc_values.specs.declared.calls.Call.{Call};
+ghost use Rattle.mpc_values.specs.declared.answers.Answer.{Answer};
 ghost use Rattle.c_code.specs.declared.code.Entry.{Entry};
 ghost use Rattle.c_code.specs.Demands.{begins, turn_limit};
 ghost use Rattle.c_code.specs.Following.{Follows};
@@ -15,7 +15,7 @@ use crate::machine::{Machine, Step};
 use crate::stack::Stack;
 use crate::states::{State, Want};
 use c_code::Code;
-use mpc_base::{Answer, Call, Memory, Word};
+use mpc_values::{Answer, Call, Memory, Word};
 use std::alloc::Global;
 use std::marker::Model;
 use std::sync::Arc;

@@ -12,7 +12,7 @@ use c_code::{Code, Entry, Instr};
 use c_tree::formats::{Format, Piece};
 use c_tree::program::{Scalar, Width};
 use c_tree::words::{holds, same_word};
-use mpc_base::{Answer, Call, Fault, Obj, Text, Word};
+use mpc_values::{Answer, Call, Fault, Obj, Text, Word};
 use std::alloc::{AllocError, Global};
 use std::sync::Arc;
 use std::test::*;

@@ -1,6 +1,6 @@
 //! What a step of a script wants.
 ghost use Rattle.std.specs.Prelude.{◌≡◌, IfOk};
-ghost use Rattle.mpc_base.specs.declared.values.Word.TheVariants.{Req};
+ghost use Rattle.mpc_values.specs.declared.values.Word.TheVariants.{Req};
 ghost use Rattle.c_tree.specs.Scripts as due;
 ghost use Rattle.task_vm.specs.Wishes.{Wishes};
 
@@ -10,7 +10,7 @@ use crate::arguments::{
 use crate::scripts::Script;
 use crate::words::moved;
 use c_tree::scripts::{ScriptStep, Target};
-use mpc_base::{Call, Fault, Memory, Status, Word, Words};
+use mpc_values::{Call, Fault, Memory, Status, Word, Words};
 
 /// What a step wants: a call, which is told beside, nothing, or that the task fails.
 #[derive(Clone, Copy, Debug)]

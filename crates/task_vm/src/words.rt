@@ -8,7 +8,7 @@ ghost use Rattle.c_tree.specs.declared.program.Width.TheVariants as width;
 
 use c_tree::arithmetic::wrap;
 use c_tree::program::{Scalar, Width};
-use mpc_base::{Fault, Obj, Word};
+use mpc_values::{Fault, Obj, Word};
 
 /// A word read where a number of a type is due: a number wraps, and a word of another kind is 0.
 pub(crate) fn number_of(width: Width, word: Word) -> i64

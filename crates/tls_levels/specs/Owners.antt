@@ -1,10 +1,10 @@
 -- Who has a copy of a variable.
 use Rattle.std.specs.Prelude.{ℕ, Bool, ◌==◌, List, [], ◌∷◌, ◌++◌, map, filter, length, Option, Some, None}
 use Rattle.std.specs.List.{list_any, flat_map, range_with_len}
-use Rattle.mpc_base.specs.declared.owners.Level.{Level}
-use Rattle.mpc_base.specs.declared.owners.Level.TheVariants.{Core, L1, L2, L3, Numa, Node}
-use Rattle.mpc_base.specs.declared.owners.Owner.{Owner}
-use Rattle.mpc_base.specs.declared.owners.Owner.TheVariants.{Task, Inst}
+use Rattle.mpc_values.specs.declared.owners.Level.{Level}
+use Rattle.mpc_values.specs.declared.owners.Level.TheVariants.{Core, L1, L2, L3, Numa, Node}
+use Rattle.mpc_values.specs.declared.owners.Owner.{Owner}
+use Rattle.mpc_values.specs.declared.owners.Owner.TheVariants.{Task, Inst}
 use Rattle.topology.specs.declared.core_numbers.CoreNumbers.{CoreNumbers}
 use Rattle.topology.specs.Instances.{instance_of}
 

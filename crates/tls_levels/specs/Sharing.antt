@@ -1,8 +1,8 @@
 -- What the tables are to those who call them: the variables, the machine and the cores of the tasks.
 use Rattle.std.specs.Prelude.{◌≡◌, ℕ, List, map, slice_index, Option}
-use Rattle.mpc_base.specs.declared.owners.Level.{Level}
-use Rattle.mpc_base.specs.declared.owners.Owner.{Owner}
-use Rattle.mpc_base.specs.declared.owners.StaticVar.{StaticVar}
+use Rattle.mpc_values.specs.declared.owners.Level.{Level}
+use Rattle.mpc_values.specs.declared.owners.Owner.{Owner}
+use Rattle.mpc_values.specs.declared.owners.StaticVar.{StaticVar}
 use Rattle.topology.specs.declared.core_numbers.CoreNumbers.{CoreNumbers}
 use Rattle.tls_levels.specs.declared.shapes.VarShape.{VarShape}
 use Rattle.tls_levels.specs.Images.{shape_of, level_at, len_at, image_number, words_in, offset_in}

@@ -3,7 +3,7 @@ ghost use Rattle.std.specs.List.{sum_by, range_with_len};
 ghost use Rattle.tls_levels.specs.Images.{words_in, offset_in};
 
 use crate::shapes::{VarShape, image_number};
-use mpc_base::Memory;
+use mpc_values::Memory;
 use std::alloc::Global;
 
 /// The offset of each variable in its image, and the length of each kind of image.

@@ -4,7 +4,7 @@ ghost use Rattle.std.specs.List.{sum_by};
 use crate::layout::{Layout, lay_out};
 use crate::owner_list::owners_of;
 use crate::shapes::{VarShape, image_number, shapes_of};
-use mpc_base::{Memory, Owner, StaticVar};
+use mpc_values::{Memory, Owner, StaticVar};
 use std::alloc::Global;
 use std::marker::Model;
 use topology::Machine;

@@ -2,7 +2,7 @@ ghost use Rattle.std.specs.Prelude.{◌≡◌, ◌<◌, ◌≤◌, ◌++◌, len
 ghost use Rattle.std.specs.List.{flat_map};
 ghost use Rattle.tls_levels.specs.Owners.{holds_core, instances_at, tasks_of, owners_of};
 
-use mpc_base::{Level, Memory, Owner};
+use mpc_values::{Level, Memory, Owner};
 use std::alloc::Global;
 use topology::Machine;
 

@@ -1,7 +1,7 @@
 ghost use Rattle.std.specs.Prelude.{◌≡◌, ◌<◌, IfOk, map};
 ghost use Rattle.tls_levels.specs.Images.{image_number, shape_of};
 
-use mpc_base::{Level, Memory, StaticVar};
+use mpc_values::{Level, Memory, StaticVar};
 use std::alloc::Global;
 
 /// How many words a static variable has, and the level whose instances share it, where it has one.

@@ -2,7 +2,7 @@ ghost use Rattle.std.specs.Prelude.{◌≡◌, ◌≤◌, length, All, IfOk, IfS
 ghost use Rattle.std.specs.List.{sum_by};
 
 use super::*;
-use mpc_base::{Level, Memory, Owner, StaticVar, Word, Words};
+use mpc_values::{Level, Memory, Owner, StaticVar, Word, Words};
 use std::alloc::Global;
 use std::test::Fail;
 use topology::{Placement, place, read_machine};

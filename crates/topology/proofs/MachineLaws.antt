@@ -3,7 +3,7 @@ use Rattle.std.proofs.Common.{◌≡◌, ℕ, zero, suc, ◌+◌, ◌<◌, true,
 use Rattle.std.specs.List.{list_all, range_with_len}
 use Rattle.std.proofs.lemmas.Bool.{and_parts}
 use Rattle.std.proofs.lemmas.Bool.Decides.{nat_tests}
-use Rattle.mpc_base.specs.declared.owners.Level.TheVariants.{Numa}
+use Rattle.mpc_values.specs.declared.owners.Level.TheVariants.{Numa}
 use Rattle.topology.specs.declared.core_numbers.CoreNumbers.{CoreNumbers}
 use Rattle.topology.specs.Instances.{numa_fits, flat_core, instance_of}
 use Rattle.topology.specs.Places.{is_in, cores_in, has_core, numa_instances}

@@ -2,8 +2,8 @@
 use Rattle.std.specs.Prelude.{ℕ, Bool, List, map, nat_lt}
 use Rattle.std.specs.List.{slice_get, range_with_len}
 use Rattle.std.specs.Option.{option_map_or}
-use Rattle.mpc_base.specs.declared.owners.Level.{Level}
-use Rattle.mpc_base.specs.declared.owners.Level.TheVariants.{Core, L1, L2, L3, Numa, Node}
+use Rattle.mpc_values.specs.declared.owners.Level.{Level}
+use Rattle.mpc_values.specs.declared.owners.Level.TheVariants.{Core, L1, L2, L3, Numa, Node}
 use Rattle.topology.specs.declared.core_numbers.CoreNumbers.{CoreNumbers}
 
 -- the number of a level for the core of this number: the core's own at the narrowest level, and 0 at

@@ -1,7 +1,7 @@
 -- Which core each task stands on.
 use Rattle.std.specs.Prelude.{ℕ, Bool, ◌%◌, ◌/◌, ◌==◌, ◌&&◌, List, [], map, filter, length, slice_index, slice_index_or, nat_lt, if◌then◌else◌, Result, Ok, Err}
 use Rattle.std.specs.List.{list_all, range_with_len}
-use Rattle.mpc_base.specs.declared.owners.Level.TheVariants.{Numa}
+use Rattle.mpc_values.specs.declared.owners.Level.TheVariants.{Numa}
 use Rattle.topology.specs.declared.core_numbers.CoreNumbers.{CoreNumbers}
 use Rattle.topology.specs.declared.refusals.BadPlace.{BadPlace}
 use Rattle.topology.specs.declared.placements.Placement.{Placement}

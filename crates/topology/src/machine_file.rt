@@ -8,7 +8,7 @@ ghost use Rattle.topology.specs.MachineFile.{document_of, is_core_key, is_level_
 use crate::core_numbers::CoreNumbers;
 use crate::machines::Machine;
 use crate::refusals::MachineRefusal;
-use mpc_base::Memory;
+use mpc_values::Memory;
 use std::alloc::Global;
 use toml::{Table, Value};
 

@@ -3,7 +3,7 @@ ghost use Rattle.std.specs.List.{list_all};
 ghost use Rattle.topology.specs.Instances.{instance_of, numa_fits, flat_machine};
 
 use crate::core_numbers::CoreNumbers;
-use mpc_base::{Level, Memory};
+use mpc_values::{Level, Memory};
 use std::alloc::Global;
 use std::marker::Model;
 

@@ -4,7 +4,7 @@ ghost use Rattle.topology.specs.Places.{placed, listed_cores, scatter_core, turn
 
 use crate::machines::Machine;
 use crate::refusals::BadPlace;
-use mpc_base::{Cores, Level, Memory};
+use mpc_values::{Cores, Level, Memory};
 use std::alloc::Global;
 
 /// How many numbers an instance may have: 0 to 255.

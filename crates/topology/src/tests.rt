@@ -1,5 +1,5 @@
 use super::*;
-use mpc_base::{Cores, Level};
+use mpc_values::{Cores, Level};
 use std::alloc::{AllocError, Global};
 use std::test::Fail;
 
@@ -14,7 +14,7 @@ const M8: &str = "[[core]]\nnuma = 0\nl3 = 0\nl2 = 0\nl1 = 0\n\n\
 [[core]]\nnuma = 1\nl3 = 1\nl2 = 7\nl1 = 7\n\n";
 
 /// What a file's bytes are refused as, or `machine`.
-fn outcome(alloc: Global, bytes: &[u8]) -> Result<&'static str, mpc_base::Memory> {
+fn outcome(alloc: Global, bytes: &[u8]) -> Result<&'static str, mpc_values::Memory> {
     match read_machine(alloc, bytes)? {
         Ok(_) => Ok("machine"),
         Err(refusal) => Ok(refusal.name()),

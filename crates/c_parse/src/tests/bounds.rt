@@ -1,6 +1,6 @@
 //! The bounds on depth and on the tokens of an expression, and whole programs.
 use super::{Verdict, answered};
-use mpc_base::Memory;
+use mpc_values::Memory;
 use std::alloc::Global;
 use std::test::Fail;
 

@@ -2,7 +2,7 @@
 //! braces.
 use super::parsed;
 use c_tree::syntax::{Binary, Change, Expr, Item, Stmt, Tree, Unary};
-use mpc_base::Memory;
+use mpc_values::Memory;
 use std::alloc::Global;
 use std::test::Fail;
 

@@ -1,7 +1,7 @@
 use Rattle.std.proofs.Common.{◌-◌, drop, arith}
 use Rattle.std.proofs.lemmas.List.{drop_all}
 use Rattle.std.proofs.lemmas.Result.{IfOk-weaker}
-use Rattle.mpc_base.specs.declared.failures.Memory.{Memory}
+use Rattle.mpc_values.specs.declared.failures.Memory.{Memory}
 use Rattle.c_types.specs.declared.nodes.Looked.{Looked}
 use Rattle.c_types.specs.Outcomes.{fault}
 use Rattle.c_types.specs.Typed as typed

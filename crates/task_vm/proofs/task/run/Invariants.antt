@@ -1,5 +1,5 @@
 use Rattle.std.proofs.Common.{List}
-use Rattle.mpc_base.specs.declared.answers.Answer.{Answer}
+use Rattle.mpc_values.specs.declared.answers.Answer.{Answer}
 use Rattle.c_code.specs.Following.{Follows, NeverSticks}
 use Rattle.task_vm.specs.States.{IsReached}
 use Rattle.task_vm.proofs.Measure.{left}

@@ -1,6 +1,6 @@
 use Rattle.std.proofs.Common.{◌≡◌, ◌++◌, map}
 use Rattle.std.specs.List.{filter, range_with_len}
-use Rattle.mpc_base.specs.declared.owners.Owner.TheVariants.{Inst}
+use Rattle.mpc_values.specs.declared.owners.Owner.TheVariants.{Inst}
 use Rattle.tls_levels.specs.Owners.{holds_core}
 use Rattle.tls_levels.proofs.owner_list.push_instances.Given as goal
 

@@ -1,5 +1,5 @@
 use Rattle.std.proofs.Common.{refl}
-use Rattle.mpc_base.specs.declared.owners.Owner.TheVariants.{Task}
+use Rattle.mpc_values.specs.declared.owners.Owner.TheVariants.{Task}
 use Rattle.topology.proofs.Ranges.{map-range_next}
 use Rattle.tls_levels.proofs.owner_list.tasks_of.Goals as goal
 

@@ -1,6 +1,6 @@
 use Rattle.std.proofs.Common.{◌≡◌, ◌*◌, ◌≤◌, length, All}
 use Rattle.std.specs.List.{sum_by}
-use Rattle.mpc_base.specs.declared.owners.StaticVar.{StaticVar}
+use Rattle.mpc_values.specs.declared.owners.StaticVar.{StaticVar}
 use Rattle.tls_levels.proofs.tests.variables.Given as goal
 
 abbrev pub invariant-loop-level : goal.invariant-loop-level

@@ -1,6 +1,0 @@
-use Rattle.std.proofs.Common.{◌≡◌, ℕ, ◌<◌, ◌≤◌, true}
-use Rattle.c_viable.specs.Cells.{table_at}
-use Rattle.c_viable.proofs.forms.cuts_before.Given as goal
-
-abbrev pub invariant-loop-place : goal.invariant-loop-place
-invariant-loop-place l = (k : ℕ) → k < l.place → l.from ≤ k → (table_at l.done l.first).whole l.from k ≡ true → (table_at l.done l.second).front k ≡ true → ⊥
