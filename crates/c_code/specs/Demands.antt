@@ -1,5 +1,6 @@
 -- What code demands next, behind a list of answers.
 use Rattle.std.specs.Prelude.{◌≡◌, ℕ, zero, suc, ℤ, pos, Bool, true, false, cond, List, [], ◌∷◌, Option, Some, None, slice_get}
+use Rattle.mpc_values.specs.declared.limits.TheConstants.{MAX_TURNS}
 use Rattle.mpc_values.specs.declared.values.Word.{Word}
 use Rattle.mpc_values.specs.declared.values.Word.TheVariants.{Int, Null}
 use Rattle.mpc_values.specs.declared.calls.Call.{Call}
@@ -57,7 +58,7 @@ begins code entry turns = record {
 
 -- how many turns a task may make
 abbrev pub turn_limit : ℕ
-turn_limit = 10000000
+turn_limit = MAX_TURNS
 
 -- Behind these answers, a task that runs the code demands this.
 abbrev pub Demands : FlatCode → List Answer → Next → Type 0

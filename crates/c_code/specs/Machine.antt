@@ -1,5 +1,6 @@
 -- What each instruction does by itself: it leads to another state, or it wants a call.
 use Rattle.std.specs.Prelude.{ℕ, zero, suc, ◌+◌, ◌-◌, ℤ, pos, negsuc, true, false, not, cond, List, [], ◌∷◌, length, take, drop, reverse, Option, Some, None, Result, Ok, Err, nat_lt, slice_get, slice_set, slice_index_or}
+use Rattle.mpc_values.specs.declared.limits.TheConstants.{MAX_DEPTH}
 use Rattle.mpc_values.specs.declared.values.Word.{Word}
 use Rattle.mpc_values.specs.declared.values.Word.TheVariants.{Undef, Int, Null, Ptr, Comm, Req}
 use Rattle.mpc_values.specs.declared.calls.Call.{Call}
@@ -70,7 +71,7 @@ pub data Stepped : Type 0 where
 
 -- how many calls may be open, main's own included
 abbrev pub depth_limit : ℕ
-depth_limit = 1024
+depth_limit = MAX_DEPTH
 
 -- the next instruction, with this stack
 abbrev pub next : Mach → List Word → Stepped

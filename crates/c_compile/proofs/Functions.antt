@@ -1,10 +1,11 @@
 -- The code of functions, their calls, and the whole program.
-use Rattle.std.proofs.Common.{◌≡◌, ℕ, zero, suc, ◌+◌, ◌<◌, ◌≤◌, Bool, true, false, cond, List, [], ◌∷◌, ◌++◌, length, Option, Some, None, pos, refl, sym, ap, ◌∙◌, subst, arith, append_assoc, length-append, drop}
+use Rattle.std.proofs.Common.{◌-◌, ◌≡◌, ℕ, zero, suc, ◌+◌, ◌<◌, ◌≤◌, Bool, true, false, cond, List, [], ◌∷◌, ◌++◌, length, Option, Some, None, pos, refl, sym, ap, ◌∙◌, subst, arith, append_assoc, length-append, drop}
 use Rattle.std.specs.Prelude.{slice_get, slice_set, slice_index_or, nat_lt}
 use Rattle.std.specs.Int.{int_wrap}
 use Rattle.std.proofs.lemmas.Bool.{lt-ltb, le-ltb}
 use Rattle.std.proofs.lemmas.Option.{slice_get-get_or}
 use Rattle.std.proofs.Math.Seq.{get_or-append_seam}
+use Rattle.mpc_values.specs.declared.limits.TheConstants.{MAX_DEPTH, MAX_TURNS}
 use Rattle.mpc_values.specs.declared.values.Word.{Word}
 use Rattle.mpc_values.specs.declared.values.Word.TheVariants.{Undef, Int}
 use Rattle.mpc_values.specs.declared.calls.Call.TheVariants as call
@@ -156,7 +157,7 @@ module _ (code : FlatCode) (fs : List p.Function) (entries : code.entries ≡ en
 
     -- what the instruction does behind its turn
     abbrev goes_into : ℕ → Stepped
-    goes_into left = cond (nat_lt (length frames + 1) 1024) (entered here line left (arguments_on count (pushed args stack)) (drop count (pushed args stack)) (slice_get code.entries number)) (breaks fault_of.Depth line)
+    goes_into left = cond (nat_lt (length frames + 1) MAX_DEPTH) (entered here line left (arguments_on count (pushed args stack)) (drop count (pushed args stack)) (slice_get code.entries number)) (breaks fault_of.Depth line)
 
     call_ticks : (k : Unit {0} → State → Next) → ((left : ℕ) → s.turns ≡ suc left → step_of code (i.Call number count line) here ≡ goes_into left → Reaches code here s.answers (k tt (record s { turns = left })))
         → Runs code frames ln pc (pushed args stack) s (tick line k s)
@@ -167,13 +168,13 @@ module _ (code : FlatCode) (fs : List p.Function) (entries : code.entries ≡ en
         by_turns zero e = faults code here (i.Call number count line) fault_of.Turns line s k refl h (ap (λ t. turned here line t goes_into) e)
         by_turns (suc left) e = r left e (ap (λ t. turned here line t goes_into) e)
 
-    too_deep : (k : Word → State → Next) → nat_lt (length frames + 1) 1024 ≡ false → Runs code frames ln pc (pushed args stack) s (tick line (λ u s'. fault fault_of.Depth line k s') s)
+    too_deep : (k : Word → State → Next) → nat_lt (length frames + 1) MAX_DEPTH ≡ false → Runs code frames ln pc (pushed args stack) s (tick line (λ u s'. fault fault_of.Depth line k s') s)
     too_deep k deep =
         call_ticks (λ u s'. fault fault_of.Depth line k s') (λ left is st.
         faults code here (i.Call number count line) fault_of.Depth line (record s { turns = left }) k refl h
         (st ∙ ap (λ b. cond b (entered here line left (arguments_on count (pushed args stack)) (drop count (pushed args stack)) (slice_get code.entries number)) (breaks fault_of.Depth line)) deep))
 
-    enter_ok : (calls : Calls) → ((fr : Frame) (l : ℕ) → CallsDo code calls (fr ∷ frames) l) → (k : Word → State → Next) → nat_lt (length frames + 1) 1024 ≡ true → length args ≡ count
+    enter_ok : (calls : Calls) → ((fr : Frame) (l : ℕ) → CallsDo code calls (fr ∷ frames) l) → (k : Word → State → Next) → nat_lt (length frames + 1) MAX_DEPTH ≡ true → length args ≡ count
         → ((v : Word) (s' : State) → s'.turns ≤ s.turns → Runs code frames ln (pc + 1) (v ∷ stack) s' (k v s')) → (o : Option p.Function) → slice_get fs number ≡ o → Runs code frames ln pc (pushed args stack) s (called calls o args line k s)
     enter_ok calls calls_ok' k shallow n r None e =
         call_ticks (λ u s'. fault fault_of.Depth line k s') (λ left is st.
@@ -197,15 +198,15 @@ module _ (code : FlatCode) (fs : List p.Function) (entries : code.entries ≡ en
         (r (value_of exit) (record s' { slots = s.slots }) (omega (arith, le, is))))))
 
   -- what a call's instruction does, where calls may go so much deeper
-  calls_ok : (d : ℕ) (frames : List Frame) (ln : ℕ) → d + length frames + 1 ≡ 1024 → CallsDo code (calls_of fs d) frames ln
+  calls_ok : (d : ℕ) (frames : List Frame) (ln : ℕ) → d + length frames + 1 ≡ MAX_DEPTH → CallsDo code (calls_of fs d) frames ln
   calls_ok zero frames ln deep = record {
     call = λ number count line pc args stack s k h n r.
-        let over' : nat_lt (length frames + 1) 1024 ≡ false = le-ltb (length frames + 1) 1024 (omega (arith, deep)) in
+        let over' : nat_lt (length frames + 1) MAX_DEPTH ≡ false = le-ltb (length frames + 1) MAX_DEPTH (omega (arith, deep)) in
         too_deep frames ln number count line pc args stack s h k over';
   }
   calls_ok (suc d) frames ln deep = record {
     call = λ number count line pc args stack s k h n r.
-        let under : nat_lt (length frames + 1) 1024 ≡ true = lt-ltb (length frames + 1) 1024 (omega (arith, deep)) in
+        let under : nat_lt (length frames + 1) MAX_DEPTH ≡ true = lt-ltb (length frames + 1) MAX_DEPTH (omega (arith, deep)) in
         enter_ok frames ln number count line pc args stack s h (calls_of fs d) (λ fr l. calls_ok d (fr ∷ frames) l (omega (arith, deep))) k under n r (slice_get fs number) refl;
   }
 
@@ -258,20 +259,20 @@ behaves program answers entry e = by_main (slice_get program.functions program.m
     all : HasAt code 0 (functions_code fs)
     all = has_all code (functions_code fs) [] refl
 
-    by_main : (o : Option p.Function) → slice_get fs program.main ≡ o → Reaches code (begins code entry turn_limit) answers (next_in fs o 1023 10000000 answers)
+    by_main : (o : Option p.Function) → slice_get fs program.main ≡ o → Reaches code (begins code entry turn_limit) answers (next_in fs o (MAX_DEPTH - 1) MAX_TURNS answers)
     by_main None none = absurd (let no_entry = absent fs 0 program.main none in cc (no_entry, e))
     by_main (Some f) some =
         let st = stands code fs 0 program.main f all some in
         let same : st.0 ≡ entry = cc (st.1, e) in
-        let s : State = record { slots = slots_of f.slots (arguments_of_main f.params); turns = 10000000; answers = answers } in
+        let s : State = record { slots = slots_of f.slots (arguments_of_main f.params); turns = MAX_TURNS; answers = answers } in
         let k : Exit → State → Next = λ exit s'. finish_main f exit (record s' { slots = [] }) in
-        let runs : Runs code [] 0 st.0.start [] s (with_params 0 f.end_line 0 f.params (run_body (calls_of fs 1023) f.ending f.end_line f.body) k s) =
-        function_ok code [] 0 (calls_of fs 1023) (calls_ok code fs refl all 1023 [] 0 refl) f st.0.start [] s k st.3
+        let runs : Runs code [] 0 st.0.start [] s (with_params 0 f.end_line 0 f.params (run_body (calls_of fs (MAX_DEPTH - 1)) f.ending f.end_line f.body) k s) =
+        function_ok code [] 0 (calls_of fs (MAX_DEPTH - 1)) (calls_ok code fs refl all (MAX_DEPTH - 1) [] 0 refl) f st.0.start [] s k st.3
         (λ exit line pc s' le hr lines. main_ends code 0 line pc f exit [] s' [] hr lines) in
         let slots : slots_of st.0.slots (main_arguments (params_of (slice_get fs program.main))) ≡ slots_of f.slots (arguments_of_main f.params) =
         ap (λ n. slots_of n (main_arguments (params_of (slice_get fs program.main)))) st.2 ∙ ap (λ o. slots_of f.slots (main_arguments (params_of o))) some ∙ ap (slots_of f.slots) (main_is f.params) in
-        subst (λ z. Reaches code (begins code z turn_limit) answers (next_in fs (Some f) 1023 10000000 answers)) same
-        (subst (λ given. Reaches code (at st.0.start [] [] 0 given 10000000) answers (next_in fs (Some f) 1023 10000000 answers)) (sym slots) runs)
+        subst (λ z. Reaches code (begins code z turn_limit) answers (next_in fs (Some f) (MAX_DEPTH - 1) MAX_TURNS answers)) same
+        (subst (λ given. Reaches code (at st.0.start [] [] 0 given MAX_TURNS) answers (next_in fs (Some f) (MAX_DEPTH - 1) MAX_TURNS answers)) (sym slots) runs)
 
 -- the code of a program with a main never sticks
 pub never_sticks : (program : p.Program) → HasMain program → NeverSticks (compiled program)

@@ -1,8 +1,9 @@
 -- What a plain program asks: its code has no instruction that asks more.
-use Rattle.std.proofs.Common.{◌≡◌, ℕ, zero, suc, ◌+◌, Bool, true, false, cond, List, [], ◌∷◌, ◌++◌, length, Option, Some, None, refl, sym, ap, ◌∙◌, subst}
+use Rattle.std.proofs.Common.{◌-◌, ◌≡◌, ℕ, zero, suc, ◌+◌, Bool, true, false, cond, List, [], ◌∷◌, ◌++◌, length, Option, Some, None, refl, sym, ap, ◌∙◌, subst}
 use Rattle.std.proofs.lemmas.Bool.{leb-true}
 use Rattle.std.specs.Prelude.{slice_get, nat_le, nat_lt, ℤ, ◌&&◌, Result, Ok, Err}
 use Rattle.std.specs.List.{list_all}
+use Rattle.mpc_values.specs.declared.limits.TheConstants.{MAX_DEPTH, MAX_TURNS}
 use Rattle.mpc_values.specs.declared.values.Word.{Word}
 use Rattle.mpc_values.specs.declared.values.Word.TheVariants.{Undef, Int, Null, Ptr, Comm, Req}
 use Rattle.mpc_values.specs.declared.calls.Call.{Call}
@@ -391,7 +392,7 @@ plain_asks program answers call line h e = leb-true (call_number call) 9 (by_ent
         entries_there (g ∷ fs) start (suc n) f s e' = entries_there fs (start + length (function_code g)) n f s e'
 
         by_main : (o : Option p.Function) → slice_get program.functions program.main ≡ o → slice_get (compiled program).entries program.main ≡ None → IsPlainCall call
-        by_main None lacks none = over_is answers (ap (λ o. next_in program.functions o 1023 10000000 answers) (sym lacks) ∙ e)
+        by_main None lacks none = over_is answers (ap (λ o. next_in program.functions o (MAX_DEPTH - 1) MAX_TURNS answers) (sym lacks) ∙ e)
           where
             over_is : (more : List Answer) → over more ≡ asking.Asks call line → IsPlainCall call
             over_is [] e' = absurd (cc e')

@@ -1,5 +1,6 @@
 -- What a task asks is a tree of calls: each answer that fits leads on, and any other is a misfit.
-use Rattle.std.proofs.Common.{◌≡◌, ◌⊎◌, inl, inr, ℕ, zero, suc, ◌+◌, Bool, true, false, cond, List, [], ◌∷◌, ◌++◌, length, Option, Some, None, Result, Ok, Err, ℤ, pos, negsuc, refl, sym, ap, ◌∙◌, subst, slice_get, slice_index_or, slice_set, arith}
+use Rattle.std.proofs.Common.{◌-◌, ◌≡◌, ◌⊎◌, inl, inr, ℕ, zero, suc, ◌+◌, Bool, true, false, cond, List, [], ◌∷◌, ◌++◌, length, Option, Some, None, Result, Ok, Err, ℤ, pos, negsuc, refl, sym, ap, ◌∙◌, subst, slice_get, slice_index_or, slice_set, arith}
+use Rattle.mpc_values.specs.declared.limits.TheConstants.{MAX_DEPTH, MAX_TURNS}
 use Rattle.mpc_values.specs.declared.values.Word.{Word}
 use Rattle.mpc_values.specs.declared.values.Word.TheVariants.{Undef, Int, Null, Ptr, Comm, Req}
 use Rattle.mpc_values.specs.declared.calls.Call.{Call}
@@ -409,7 +410,7 @@ asked_before (suc n) g (b ∷ before) a behind e (inl t) h =
 
 -- what a program asks is a tree of calls
 program_tree : (program : p.Program) (n : ℕ) → Tree n (next_of program)
-program_tree program n = next_tree program.functions (slice_get program.functions program.main) 1023 10000000 n
+program_tree program n = next_tree program.functions (slice_get program.functions program.main) (MAX_DEPTH - 1) MAX_TURNS n
 
 pub next_laws : NextLaws
 next_laws = record {

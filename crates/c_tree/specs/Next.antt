@@ -1,5 +1,6 @@
 -- What a task asks next, behind a list of answers.
-use Rattle.std.specs.Prelude.{ℕ, zero, suc, ℤ, pos, List, [], ◌∷◌, Option, Some, None, slice_get, Bool}
+use Rattle.std.specs.Prelude.{ℕ, zero, suc, ◌-◌, ℤ, pos, List, [], ◌∷◌, Option, Some, None, slice_get, Bool}
+use Rattle.mpc_values.specs.declared.limits.TheConstants.{MAX_DEPTH, MAX_TURNS}
 use Rattle.mpc_values.specs.declared.values.Word.{Word}
 use Rattle.mpc_values.specs.declared.values.Word.TheVariants.{Int, Null}
 use Rattle.mpc_values.specs.declared.calls.Call.TheVariants as call
@@ -41,7 +42,7 @@ next_in functions None depth turns answers = over answers
 next_in functions (Some main) depth turns answers =
     exit_of (calls_of functions depth) main (arguments_of_main main.params) 0 (finish_main main) (record { slots = []; turns = turns; answers = answers })
 
--- What a task that runs a program asks next, behind these answers. It makes at most 10,000,000 turns, and its calls go at
--- most 1,024 deep: main is at depth 1, so 1,023 calls may be open in it.
+-- What a task that runs a program asks next, after these answers. Main is at depth 1, so the calls that may be open in it are
+-- one less than the depth that is allowed.
 abbrev pub next_of : Program → List Answer → Next
-next_of program answers = next_in program.functions (slice_get program.functions program.main) 1023 10000000 answers
+next_of program answers = next_in program.functions (slice_get program.functions program.main) (MAX_DEPTH - 1) MAX_TURNS answers

@@ -14,3 +14,4 @@ pub mod CallForms
 pub mod Passes
 pub mod Checked
 pub mod Mains
+pub mod Sizes

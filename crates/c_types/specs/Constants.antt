@@ -1,6 +1,7 @@
 -- Constant expressions (C99, section 6.6): their types and values. What is not evaluated has to be constant too, but
 -- may have a fault.
 use Rattle.std.specs.Prelude.{ℕ, ℤ, pos, Bool, true, false, cond, not, ◌&&◌, List, [], ◌∷◌, ◌++◌, length, replicate, nat_le, Option, None, Some, option_map, option_and_then, ◌-◌, Result, Ok, Err}
+use Rattle.mpc_values.specs.declared.limits.TheConstants.{MAX_ARRAY_LENGTH}
 use Rattle.mpc_values.specs.declared.faults.Fault.{Fault}
 use Rattle.mpc_values.specs.declared.values.Word.{Word}
 use Rattle.mpc_values.specs.declared.values.Word.TheVariants as word
@@ -205,9 +206,9 @@ constant_of (x.Binary' at by left right) = binary_constant by (constant_of left)
 constant_of (x.Choice at test a b) = choice_constant (constant_of test) (constant_of a) (constant_of b)
 constant_of (x.Assign at by left right) = None
 
--- a number from 1 to 1,048,576
+-- a number from 1 to the greatest length of an array (C99, section 6.7.5.2)
 abbrev pub length_in : Word → Option ℕ
-length_in (word.Int (pos n)) = cond (nat_le 1 n && nat_le n 1048576) (Some n) None
+length_in (word.Int (pos n)) = cond (nat_le 1 n && nat_le n MAX_ARRAY_LENGTH) (Some n) None
 length_in other = None
 
 abbrev pub length_of_constant : Option Constant → Option ℕ
@@ -250,6 +251,6 @@ filled len zero (Some ws) = cond (nat_le (length ws) len) (Some (ws ++ replicate
 abbrev pub initial_words : Kind → Bool → ℕ → x.Initializer → Option (List Word)
 initial_words element is_array len x.Nothing = Some (replicate len (zero_word element))
 initial_words element true len (x.Value value) = None
-initial_words element false len (x.Value value) = option_map (λ w. w ∷ []) (start_word element (constant_of value))
+initial_words element false len (x.Value value) = filled len (zero_word element) (option_map (λ w. w ∷ []) (start_word element (constant_of value)))
 initial_words element true len (x.Values values) = filled len (zero_word element) (start_words element values)
 initial_words element false len (x.Values values) = None

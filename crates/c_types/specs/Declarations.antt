@@ -1,5 +1,6 @@
 -- Declarations of variables: what they declare, what the rules read of them, and their typed form.
 use Rattle.std.specs.Prelude.{ℕ, ◌+◌, ◌*◌, nat_le, Bool, true, false, cond, not, ◌&&◌, ◌||◌, List, [], ◌∷◌, ◌++◌, length, Option, None, Some, option_map, is_some, unwrap_or}
+use Rattle.mpc_values.specs.declared.limits.TheConstants.{MAX_STATIC_VARIABLES, MAX_STATIC_WORDS}
 use Rattle.mpc_values.specs.declared.values.Word.{Word}
 use Rattle.mpc_values.specs.declared.owners.StaticVar.{StaticVar}
 use Rattle.c_tree.specs.declared.syntax.Base.{Base}
@@ -57,9 +58,9 @@ object_words base d = option_map (λ n. n * kind_words (element_kind base d)) (e
 
 -- ---- static variables
 
--- with so many more words there are at most 4,096 static variables and 262,144 static words
+-- with one more static variable of so many words the limits are kept
 abbrev pub fits_static : Env → ℕ → Bool
-fits_static env words = nat_le (length env.globals + length env.statics + 1) 4096 && nat_le (env.words + words) 262144
+fits_static env words = nat_le (length env.globals + length env.statics + 1) MAX_STATIC_VARIABLES && nat_le (env.words + words) MAX_STATIC_WORDS
 
 abbrev pub static_words_in : Env → Option ℕ → Option ℕ
 static_words_in env None = None

@@ -21,3 +21,4 @@ pub mod Units
 pub mod Typing
 pub mod Answers
 pub mod Mains
+pub mod Sizes

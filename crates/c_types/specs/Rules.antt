@@ -2,6 +2,7 @@
 --
 -- An operand whose own rule is broken has no type, and no rule is broken by what is not known of it.
 use Rattle.std.specs.Prelude.{ℕ, Bool, true, false, cond, not, ◌&&◌, ◌||◌, nat_le, List, [], ◌∷◌, Option, None, Some, is_some}
+use Rattle.mpc_values.specs.declared.limits.TheConstants.{MAX_CONSTRUCTS}
 use Rattle.c_tree.specs.declared.syntax.Base.{Base}
 use Rattle.c_tree.specs.declared.syntax.Base.TheVariants.{Int, Long, Comm, Request, Status}
 use Rattle.c_tree.specs.declared.syntax.Binary.{Binary}
@@ -315,9 +316,9 @@ breaks Rule31 (Statement (Single are_shared may_stand before)) = not are_shared
 breaks Rule31 (Statement (Barrier are_shared before)) = not are_shared
 -- control may leave a single's block in another way than at its end, or another such statement stands in it
 breaks Rule32 (Statement (Single are_shared may_stand before)) = not may_stand
--- 256 or more such statements stand before
-breaks Rule33 (Statement (Single are_shared may_stand before)) = nat_le 256 before
-breaks Rule33 (Statement (Barrier are_shared before)) = nat_le 256 before
+-- as many such statements as are allowed stand before
+breaks Rule33 (Statement (Single are_shared may_stand before)) = nat_le MAX_CONSTRUCTS before
+breaks Rule33 (Statement (Barrier are_shared before)) = nat_le MAX_CONSTRUCTS before
 breaks other shape = false
 
 -- the rules in order

@@ -14,6 +14,7 @@ use c_tree::arithmetic::{compare, complement, compute, negate, wrap};
 use c_tree::program::{Comparison, Operation, Width};
 use c_tree::syntax::{Base, Binary, Expr, Initializer, TypeName, Unary};
 use c_tree::words::{holds, same_word, truth};
+use mpc_values::limits::MAX_ARRAY_LENGTH;
 use mpc_values::{Memory, Word};
 use std::alloc::Global;
 
@@ -290,13 +291,13 @@ pub fn constant_of(e: &Expr) -> Option<Constant>
     }
 }
 
-// A number from 1 to 1,048,576.
+// A number from 1 to the greatest length of an array.
 fn length_in(word: Word) -> Option<u32>
     ensures { result ≡ constants.length_in word }
 {
     match word {
         Word::Int(number) => match u32::try_from(number) {
-            Ok(number) if number >= 1 && number <= 1048576 => Some(number),
+            Ok(number) if number >= 1 && number <= MAX_ARRAY_LENGTH => Some(number),
             _ => None,
         },
         _ => None,
@@ -402,7 +403,7 @@ pub fn initial_words(
                 return Ok(None);
             }
             match start_word(element, constant_of(value)) {
-                Some(word) => Ok(Some(vec![in alloc; word]?)),
+                Some(word) => filled(vec![in alloc; word]?, len, zero_word(element)),
                 None => Ok(None),
             }
         }

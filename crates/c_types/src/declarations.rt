@@ -23,12 +23,9 @@ use crate::shapes::{Declared, Initial, ItemShape, Shape};
 use crate::variables::{declared_kind, element_kind, is_array, object_words, variable_of};
 use c_tree::program::{Expr, Stmt};
 use c_tree::syntax::{Base, Declaration, Declarator, Initializer};
+use mpc_values::limits::{MAX_STATIC_VARIABLES, MAX_STATIC_WORDS};
 use mpc_values::{Memory, StaticVar, Word, Words};
 use std::alloc::Global;
-
-const STATIC_VARIABLES: usize = 4096;
-
-const STATIC_WORDS: u64 = 262144;
 
 // Whether one more static variable of so many words keeps the limits.
 fn fits_static(names: &Names, words: u64) -> bool
@@ -36,13 +33,13 @@ fn fits_static(names: &Names, words: u64) -> bool
     ensures { result ≡ declarations.fits_static names.now words }
 {
     let others = names.globals.len().saturating_add(names.statics.len());
-    others < STATIC_VARIABLES && u64::from(names.words) + words <= STATIC_WORDS
+    others < MAX_STATIC_VARIABLES && u64::from(names.words) + words <= MAX_STATIC_WORDS
 }
 
 // How many words a static variable has, where these and the variable keep the limits.
 fn static_words(names: &Names, base: Base, d: &Declarator) -> Option<u32>
     ensures value { result ≡ declarations.static_words names.now base (declarator_of d.now) }
-    ensures limit { IfSome result (λ words. names.now.words + words ≤ 262144) }
+    ensures limit { IfSome result (λ words. names.now.words + words ≤ MAX_STATIC_WORDS) }
 {
     match object_words(base, d) {
         Some(words) if fits_static(names, words) => Some(words as u32),
@@ -93,7 +90,7 @@ fn static_of(alloc: Global, words: Option<u32>, first: Option<Vec<Word>>) -> Sta
 
 // How many static words there are with these.
 fn total_words(names: &Names, words: Option<u32>) -> u32
-    requires { IfSome words (λ n. names.now.words + n ≤ 262144) }
+    requires { IfSome words (λ n. names.now.words + n ≤ MAX_STATIC_WORDS) }
     ensures { result ≡ names.now.words + unwrap_or words 0 }
 {
     match words {

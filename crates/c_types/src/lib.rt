@@ -21,6 +21,7 @@ mod meanings;
 mod names;
 mod nodes;
 mod outcomes;
+mod program_laws;
 mod refusals;
 mod rules;
 mod scopes;
@@ -31,8 +32,7 @@ mod simple_statements;
 mod statements;
 mod units;
 mod variables;
-mod with_main;
 
+pub use program_laws::{typed_programs_are_sized, typed_programs_have_a_main};
 pub use refusals::TypeRefusal;
 pub use units::check;
-pub use with_main::typed_programs_have_a_main;

@@ -17,6 +17,7 @@ use crate::shapes::{
     StatementShape,
 };
 use c_tree::syntax::{Base, Binary};
+use mpc_values::limits::MAX_CONSTRUCTS;
 
 // The type that a name has as a value.
 fn value_kind(declared: Option<Decl>) -> Option<Kind>
@@ -303,10 +304,10 @@ fn statement_rule(shape: StatementShape) -> Option<u16>
         } => or_else(
             !are_shared,
             31,
-            or_else(!may_stand, 32, or_else(before >= 256, 33, None)),
+            or_else(!may_stand, 32, or_else(before >= MAX_CONSTRUCTS, 33, None)),
         ),
         StatementShape::Barrier { are_shared, before } => {
-            or_else(!are_shared, 31, or_else(before >= 256, 33, None))
+            or_else(!are_shared, 31, or_else(before >= MAX_CONSTRUCTS, 33, None))
         }
     }
 }

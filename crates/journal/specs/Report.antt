@@ -3,16 +3,18 @@ use Rattle.std.specs.Prelude.{ℕ, ◌+◌, ◌-◌, slice_get, ◌==◌, if◌t
 use Rattle.std.specs.Fmt.{decimal, signed_decimal}
 use Rattle.mpc_base.specs.declared.journals.End.{End}
 use Rattle.mpc_base.specs.declared.journals.End.TheVariants as end
-use Rattle.mpc_values.specs.CallTable.{fault_name}
-use Rattle.run_model.specs.declared.records.RankEnd.{RankEnd}
-use Rattle.run_model.specs.declared.records.RankState.{RankState}
-use Rattle.run_model.specs.declared.records.RankState.TheVariants as rank
+use Rattle.mpc_values.specs.CallTable.{fault_name, name_of_number}
+use Rattle.mpc_base.specs.declared.journals.RankEnd.{RankEnd}
+use Rattle.mpc_base.specs.declared.journals.RankState.{RankState}
+use Rattle.mpc_base.specs.declared.journals.RankState.TheVariants as rank
 
 -- how a rank stands
 abbrev pub state_text : RankState → List ℕ
 state_text (rank.Exit code) = codes "exit " ++ signed_decimal code
 state_text rank.Stopped = codes "stopped"
+state_text (rank.Blocked call line) = codes "blocked in " ++ (name_of_number call ++ (codes " at line " ++ decimal line))
 state_text (rank.Fault fault line) = codes "fault " ++ (fault_name fault ++ (codes " at line " ++ decimal line))
+state_text (rank.Aborted code line) = codes "aborted " ++ (signed_decimal code ++ (codes " at line " ++ decimal line))
 
 -- the line before a rank's output
 abbrev pub rank_line : ℕ → RankState → ℕ → List ℕ
@@ -36,11 +38,15 @@ abbrev pub rank_parts : ℕ → List RankEnd → List ℕ
 rank_parts rank [] = []
 rank_parts rank (rank_end ∷ more) = rank_part rank rank_end ++ rank_parts (rank + 1) more
 
--- the last line; a run that goes on has none
+-- the last line; a run that goes on has none, nor has one that is given up for want of memory
 abbrev pub ending_line : End → List ℕ
 ending_line end.Going = []
 ending_line end.Finished = codes "== run: finished ==\n"
 ending_line (end.Fault task fault line) = codes "== run: fault in rank " ++ (decimal task ++ codes " ==\n")
+ending_line (end.Abort task code line) = codes "== run: aborted by rank " ++ (decimal task ++ codes " ==\n")
+ending_line end.Stuck = codes "== run: stuck ==\n"
+ending_line end.NoThread = codes "== run: no thread ==\n"
+ending_line end.NoMemory = []
 
 -- the report of a run with these ranks and this end
 abbrev pub report_of : List RankEnd → End → List ℕ

@@ -1,8 +1,8 @@
 ghost use Rattle.std.specs.Prelude.{◌≡◌, ◌≢◌, ◌++◌, IfOk, OnOk, string_bytes};
 ghost use Rattle.journal.specs.Report.{report_of, rank_part, rank_line, state_text, closing, ending_line};
 
-use mpc_base::{End, Memory};
-use run_model::{RankEnd, RankState, RunRecord};
+use mpc_base::{Call, End, Memory, RankEnd, RankState};
+use run_model::RunRecord;
 use std::alloc::{AllocError, Global};
 
 fn state_text(alloc: Global, state: &RankState) -> Result<String, AllocError>
@@ -15,6 +15,11 @@ fn state_text(alloc: Global, state: &RankState) -> Result<String, AllocError>
             let name = fault.name();
             format!(in alloc; "fault {name} at line {line}")
         }
+        RankState::Blocked { call, line } => {
+            let name = Call::name_of(call);
+            format!(in alloc; "blocked in {name} at line {line}")
+        }
+        RankState::Aborted { code, line } => format!(in alloc; "aborted {code} at line {line}"),
     }
 }
 
@@ -61,20 +66,25 @@ fn push_rank(
 }
 
 fn ending_line(alloc: Global, end: &End) -> Result<String, AllocError>
-    requires { end.now ≢ End.Going }
+    requires going { end.now ≢ End.Going }
+    requires memory { end.now ≢ End.NoMemory }
     ensures { IfOk result (λ line. string_bytes line ≡ ending_line end.now) }
 {
     match *end {
-        End::Going => unreachable!(),
+        End::Going | End::NoMemory => unreachable!(),
         End::Finished => format!(in alloc; "== run: finished ==\n"),
         End::Fault { task, .. } => format!(in alloc; "== run: fault in rank {task} ==\n"),
+        End::Abort { task, .. } => format!(in alloc; "== run: aborted by rank {task} ==\n"),
+        End::Stuck => format!(in alloc; "== run: stuck ==\n"),
+        End::NoThread => format!(in alloc; "== run: no thread ==\n"),
     }
 }
 
 /// The report of a run that has ended: for each rank a line with its state and the number of its bytes, and
 /// these bytes; and a last line with the run's ending.
 pub fn report(alloc: Global, run: &RunRecord) -> Result<Vec<u8>, Memory>
-    requires { run.now.end ≢ End.Going }
+    requires going { run.now.end ≢ End.Going }
+    requires memory { run.now.end ≢ End.NoMemory }
     ensures { IfOk result (λ text. text.items ≡ report_of run.now.ranks run.now.end) }
 {
     let mut text = Vec::new(alloc);

@@ -4,20 +4,12 @@ ghost use Rattle.std.specs.Prelude.{◌≡◌, ◌≢◌, IfOk};
 use crate::report;
 use c_tree::Globals;
 use c_tree::program::{Constructs, Program};
-use mpc_base::{End, Entries, Fault, Journal, Memory, Text};
-use run_model::{RankEnd, RankEnds, RankState, RunRecord, Setup};
+use mpc_base::{
+    End, Entries, Fault, Journal, Memory, RankEnd, RankEnds, RankState, Text,
+};
+use run_model::{RunRecord, Setup};
 use std::alloc::Global;
 use std::test::*;
-
-// The end of a run with this fault, or without one.
-fn end_by(fault: Option<(u32, Fault, u32)>) -> End
-    ensures { result ≢ End.Going }
-{
-    match fault {
-        None => End::Finished,
-        Some((task, fault, line)) => End::Fault { task, fault, line },
-    }
-}
 
 fn record(alloc: Global, ranks: &[(RankState, &[u8])], end: End) -> Result<RunRecord, Memory>
     ensures { IfOk result (λ run. run.end ≡ end) }
@@ -51,15 +43,18 @@ fn record(alloc: Global, ranks: &[(RankState, &[u8])], end: End) -> Result<RunRe
 fn report_of_run(
     alloc: Global,
     ranks: &[(RankState, &[u8])],
-    fault: Option<(u32, Fault, u32)>,
-) -> Result<Vec<u8>, Memory> {
-    let run = record(alloc, ranks, end_by(fault))?;
+    end: End,
+) -> Result<Vec<u8>, Memory>
+    requires going { end ≢ End.Going }
+    requires memory { end ≢ End.NoMemory }
+{
+    let run = record(alloc, ranks, end)?;
     report(alloc, &run)
 }
 
 #[test]
 fn report_of_one_rank_has_52_bytes(rt: HostRuntime) -> Result<(), Fail> {
-    let text = report_of_run(rt.alloc(), &[(RankState::Exit(0), b"2\n")], None)?;
+    let text = report_of_run(rt.alloc(), &[(RankState::Exit(0), b"2\n")], End::Finished)?;
     assert_eq!(rt; text.len(), 52);
     assert_eq!(rt;
         text.as_slice(),
@@ -98,7 +93,7 @@ fn outputs_are_closed_by_a_line_feed(rt: HostRuntime) -> Result<(), Fail> {
         ),
     ];
     for (code, output, want) in rows.iter() {
-        let text = report_of_run(rt.alloc(), &[(RankState::Exit(*code), *output)], None)?;
+        let text = report_of_run(rt.alloc(), &[(RankState::Exit(*code), *output)], End::Finished)?;
         assert_eq!(rt; text.as_slice(), *want);
     }
     Ok(())
@@ -113,10 +108,46 @@ fn fault_stops_the_other_rank(rt: HostRuntime) -> Result<(), Fail> {
     let text = report_of_run(
         rt.alloc(),
         &[(RankState::Stopped, b"so far"), (fault, b"")],
-        Some((1, Fault::Bounds, 15)),
+        End::Fault {
+            task: 1,
+            fault: Fault::Bounds,
+            line: 15,
+        },
     )?;
     let want =
         b"== rank 0: stopped, 6 bytes ==\nso far\n== rank 1: fault Bounds at line 15, 0 bytes ==\n== run: fault in rank 1 ==\n";
+    assert_eq!(rt; text.as_slice(), want.as_slice());
+    Ok(())
+}
+
+#[test]
+fn blocked_ranks_name_their_calls(rt: HostRuntime) -> Result<(), Fail> {
+    let leaves = RankState::Blocked { call: 23, line: 9 };
+    let text = report_of_run(
+        rt.alloc(),
+        &[(leaves, b""), (RankState::Exit(0), b"done")],
+        End::Stuck,
+    )?;
+    let want =
+        b"== rank 0: blocked in leave at line 9, 0 bytes ==\n== rank 1: exit 0, 4 bytes ==\ndone\n== run: stuck ==\n";
+    assert_eq!(rt; text.as_slice(), want.as_slice());
+    Ok(())
+}
+
+#[test]
+fn abort_and_want_of_a_thread_end_the_report(rt: HostRuntime) -> Result<(), Fail> {
+    let aborts = RankState::Aborted { code: -9, line: 12 };
+    let abort = End::Abort {
+        task: 1,
+        code: -9,
+        line: 12,
+    };
+    let text = report_of_run(rt.alloc(), &[(RankState::Stopped, b""), (aborts, b"")], abort)?;
+    let want =
+        b"== rank 0: stopped, 0 bytes ==\n== rank 1: aborted -9 at line 12, 0 bytes ==\n== run: aborted by rank 1 ==\n";
+    assert_eq!(rt; text.as_slice(), want.as_slice());
+    let text = report_of_run(rt.alloc(), &[(RankState::Stopped, b"")], End::NoThread)?;
+    let want = b"== rank 0: stopped, 0 bytes ==\n== run: no thread ==\n";
     assert_eq!(rt; text.as_slice(), want.as_slice());
     Ok(())
 }

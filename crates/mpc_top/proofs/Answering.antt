@@ -14,7 +14,7 @@ use Rattle.mpc_top.specs.Sources.{Refuses, refusal_line}
 use Rattle.mpc_top.specs.RunStatuses.{made_status, IsStatusOf}
 use Rattle.mpc_top.specs.Answers.{OfSource, ToldSource, WroteLine, IsAccepted, IsGood, Text, IsDone, IsCutShort, IsMade, RunsSource}
 use Rattle.mpc_top.specs.Refusals.{Holds, MadeOf, Showed, SourceAnswered, Answered, status_for, line_for}
-use Rattle.mpc_top.proofs.RunStatuses.{made_small, says_status}
+use Rattle.mpc_top.proofs.RunStatuses.{run_small, says_status}
 use Rattle.mpc_top.proofs.Reasons.{same_reason, good_content}
 
 -- what holds of the content that was read holds of the file
@@ -90,9 +90,15 @@ not_made Memory status is (inr h) = omega (arith, is, h)
 short_not_made : (status : ℕ) → status ≡ 10 → IsMade status → ⊥
 short_not_made status is made = not_made Memory status is made
 
-shown_made : (kept : Option RunRecord) (status : ℕ) (text : List ℕ) (t t' : Option (List ℕ)) (w w' : ℕ) → Showed (made_status kept) status text t t' w w' → IsMade status
-shown_made kept status text t t' w w' (inl whole) = inl (subst (λ n. n ≤ 2) (sym whole.0) (made_small kept))
-shown_made kept status text t t' w w' (inr part) = inr part.0
+-- the status of what was made is at most 2
+made_small : (m : Mode) (words : List (List ℕ)) (told : Option Store) (kept : Option RunRecord) (text : List ℕ) → Text m words told kept text → made_status kept ≤ 2
+made_small m words told None text is = omega arith
+made_small Check words told (Some run') text is = absurd is
+made_small Serial words told (Some run') text is = run_small run' is.0.records
+
+shown_made : (kept : Option RunRecord) (status : ℕ) (text : List ℕ) (t t' : Option (List ℕ)) (w w' : ℕ) → made_status kept ≤ 2 → Showed (made_status kept) status text t t' w w' → IsMade status
+shown_made kept status text t t' w w' small (inl whole) = inl (subst (λ n. n ≤ 2) (sym whole.0) small)
+shown_made kept status text t t' w w' small (inr part) = inr part.0
 
 module _ (words : List (List ℕ)) (told : Option Store) (f f' status : ℕ) (kept : Option RunRecord) (t t' : Option (List ℕ)) (w w' : ℕ) where
   -- words that are no command end with status 6, and no other words
@@ -121,7 +127,7 @@ module _ (words : List (List ℕ)) (told : Option Store) (f f' status : ℕ) (ke
   usage_of (inl r) = (usage_refusal r.refusal r.holds r.status_is, refusal_usage r.refusal r.holds r.status_is)
   usage_of (inr (inl s)) =
       let named = text_names s.mode kept s.text s.is in
-      (λ six. absurd (six_not_made six (shown_made kept status s.text t t' w w' s.showed)), λ none. absurd (none s.mode named.0 named.1))
+      (λ six. absurd (six_not_made six (shown_made kept status s.text t t' w w' (made_small s.mode words told kept s.text s.is) s.showed)), λ none. absurd (none s.mode named.0 named.1))
   usage_of (inr (inr s)) = (λ six. absurd (omega (arith, six, s.3.status_is)), λ none. absurd (none s.0 s.1 s.2))
 
   -- a status up to 2 comes with the whole text
@@ -137,14 +143,14 @@ module _ (words : List (List ℕ)) (told : Option Store) (f f' status : ℕ) (ke
   done_of (inr (inr s)) small = absurd (short_not_made status s.3.status_is (inl small))
 
   -- status 8 comes with a prefix of the text, and a count that rose
-  shown_part : (text : List ℕ) → Showed (made_status kept) status text t t' w w' → status ≡ 8 → TookPrefix t text t' × Rose w w'
-  shown_part text (inl whole) eight = absurd (omega (arith, whole.0, eight, made_small kept))
-  shown_part text (inr part) eight = (part.1, part.2)
+  shown_part : (text : List ℕ) → made_status kept ≤ 2 → Showed (made_status kept) status text t t' w w' → status ≡ 8 → TookPrefix t text t' × Rose w w'
+  shown_part text small (inl whole) eight = absurd (omega (arith, whole.0, eight, small))
+  shown_part text small (inr part) eight = (part.1, part.2)
 
   pub cut_of : Answered words told f f' status kept t t' w w' → status ≡ 8 → IsCutShort words told kept t t' × Rose w w'
   cut_of (inl r) eight = absurd (not_made r.refusal status r.status_is (inr eight))
   cut_of (inr (inl s)) eight =
-      let part = shown_part s.text s.showed eight in
+      let part = shown_part s.text (made_small s.mode words told kept s.text s.is) s.showed eight in
       (record { mode = s.mode; text = s.text; is = s.is; took = part.0 }, part.1)
   cut_of (inr (inr s)) eight = absurd (short_not_made status s.3.status_is (inr eight))
 
@@ -188,7 +194,7 @@ module _ (words : List (List ℕ)) (told : Option Store) (f f' status : ℕ) (ke
   kept_of (inl r) = (λ some. absurd (some_none kept r.kept_none some), λ made. absurd (not_made r.refusal status r.status_is made.1))
   kept_of (inr (inl s)) =
       let keeps = text_keeps s.mode kept s.text s.is in
-      (λ some. (keeps.0 some, shown_made kept status s.text t t' w w' s.showed), λ made. keeps.1 made.0)
+      (λ some. (keeps.0 some, shown_made kept status s.text t t' w w' (made_small s.mode words told kept s.text s.is) s.showed), λ made. keeps.1 made.0)
   kept_of (inr (inr s)) = (λ some. absurd (some_none kept s.3.kept_none some), λ made. absurd (short_not_made status s.3.status_is made.1))
 
   -- a text is made of a source that is good for the mode

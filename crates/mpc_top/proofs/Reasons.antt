@@ -1,5 +1,6 @@
 -- A file is refused for one reason, and a file that is refused is not accepted.
 use Rattle.std.proofs.Common.{◌≡◌, ◌≤◌, ◌<◌, ℕ, Bool, true, false, List, length, Option, Some, None, refl, sym, ap, ◌∙◌, subst, arith}
+use Rattle.mpc_values.specs.declared.limits.TheConstants.{MAX_SOURCE_BYTES}
 use Rattle.c_lex.specs.declared.tokens.Token.{Token}
 use Rattle.c_lex.specs.declared.tokens.LexRefusal.{LexRefusal}
 use Rattle.c_lex.specs.Lexed as lexed
@@ -20,7 +21,7 @@ use Rattle.mpc_top.specs.declared.sources.SourceRefusal.TheVariants as refusal
 use Rattle.mpc_top.specs.Sources.{HasTokens, HasTree, Accepted, RefusesContent, Refuses}
 use Rattle.mpc_top.specs.Answers.{IsBuilt, IsGood}
 
-long_or_short : (src : List ℕ) → 1048576 < length src → length src ≤ 1048576 → ⊥
+long_or_short : (src : List ℕ) → MAX_SOURCE_BYTES < length src → length src ≤ MAX_SOURCE_BYTES → ⊥
 long_or_short src long short = omega (arith, long, short)
 
 -- a source with tokens is not refused by the lexical rules

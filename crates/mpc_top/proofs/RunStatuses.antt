@@ -9,7 +9,7 @@ use Rattle.mpc_values.specs.declared.calls.Call.{Call}
 use Rattle.mpc_values.specs.declared.faults.Fault.{Fault}
 use Rattle.mpc_values.specs.declared.faults.Fault.TheVariants.{Calls}
 use Rattle.mpc_base.specs.declared.journals.Out.{Out}
-use Rattle.mpc_base.specs.declared.journals.Out.TheVariants.{Did, Broke}
+use Rattle.mpc_base.specs.declared.journals.Out.TheVariants.{Waits, Did, Broke}
 use Rattle.mpc_base.specs.declared.journals.Entry.{Entry}
 use Rattle.mpc_base.specs.declared.journals.End.{End}
 use Rattle.mpc_base.specs.declared.journals.End.TheVariants as end
@@ -18,9 +18,9 @@ use Rattle.c_tree.specs.Next.{next_of}
 use Rattle.c_tree.specs.ProgramOf.{program_of}
 use Rattle.run_model.specs.declared.records.Setup.{Setup}
 use Rattle.run_model.specs.declared.records.RunRecord.{RunRecord}
-use Rattle.run_model.specs.declared.records.RankEnd.{RankEnd}
-use Rattle.run_model.specs.declared.records.RankState.{RankState}
-use Rattle.run_model.specs.declared.records.RankState.TheVariants as rank
+use Rattle.mpc_base.specs.declared.journals.RankEnd.{RankEnd}
+use Rattle.mpc_base.specs.declared.journals.RankState.{RankState}
+use Rattle.mpc_base.specs.declared.journals.RankState.TheVariants as rank
 use Rattle.run_model.specs.declared.lasts.Last.{Last}
 use Rattle.run_model.specs.World.{World, TaskState}
 use Rattle.run_model.specs.Go.{Act, Does, Fails, Unbuilt, act, Stays, acted, fails, visited, count_of, calls_limit, entry_of, answers_of, has_finished, has_ended, go, go_next, go_task}
@@ -32,6 +32,7 @@ use Rattle.mpc_top.specs.RunStatuses.{IsBadExit, FinishedWell, FinishedBadly, Is
 IsDid : Out → Type 0
 IsDid (Did answer) = Unit {0}
 IsDid (Broke fault) = ⊥
+IsDid Waits = Unit {0}
 
 AllDid : List Entry → Type 0
 AllDid [] = Unit {0}
@@ -51,6 +52,7 @@ did_or_fault : (out : Out) → IsDid out → IsFault out → ⊥
 unfolding IsDid
 did_or_fault (Did answer) did fault = fault
 did_or_fault (Broke fault) did is = did
+did_or_fault Waits did is = is
 
 no_fault_last : (entries : List Entry) → AllDid entries → EndsInFault entries → ⊥
 no_fault_last entries all ends = did_or_fault ends.entry.out (last_did ends.before ends.entry (subst AllDid ends.last all)) ends.fault
@@ -154,7 +156,9 @@ two_of run' records =
 zero_exit : (state : RankState) → is_zero_exit state ≡ true → state ≡ rank.Exit (pos 0)
 zero_exit (rank.Exit code) e = ap rank.Exit ((Decides-int_eq code (pos 0)).0 e)
 zero_exit rank.Stopped e = absurd (cc)
+zero_exit (rank.Blocked call line) e = absurd (cc)
 zero_exit (rank.Fault fault line) e = absurd (cc)
+zero_exit (rank.Aborted code line) e = absurd (cc)
 
 exit_zero : (state : RankState) → state ≡ rank.Exit (pos 0) → is_zero_exit state ≡ true
 exit_zero state e = ap is_zero_exit e
@@ -177,7 +181,9 @@ bad_not_zero (rank.Exit code) bad = by_test (int_eq code (pos 0)) refl
     by_test true e = absurd (bad ((Decides-int_eq code (pos 0)).0 e))
     by_test false e = refl
 bad_not_zero rank.Stopped bad = absurd bad
+bad_not_zero (rank.Blocked call line) bad = absurd bad
 bad_not_zero (rank.Fault fault line) bad = absurd bad
+bad_not_zero (rank.Aborted code line) bad = absurd bad
 
 BadExit : List RankEnd → Type 0
 BadExit ranks = Any (λ r. IsBadExit r.state) ranks
@@ -218,22 +224,27 @@ unfolding of_all
 finished_small true = omega arith
 finished_small false = omega arith
 
-status_small : (e : End) (ranks : List RankEnd) → status_of e ranks ≤ 2
+status_small : (last : Option Last) (b : Bool) (ranks : List RankEnd) → status_of (end_of last b) ranks ≤ 2
 unfolding of_all
-status_small end.Going ranks = omega arith
-status_small end.Finished ranks = finished_small (list_all (λ r. is_zero_exit r.state) ranks)
-status_small (end.Fault task fault line) ranks = omega arith
+status_small None true ranks = finished_small (list_all (λ r. is_zero_exit r.state) ranks)
+status_small None false ranks = omega arith
+status_small (Some last) b ranks = omega arith
 
--- the status of what was made is at most 2
-pub made_small : (kept : Option RunRecord) → made_status kept ≤ 2
-made_small None = omega arith
-made_small (Some run') = status_small run'.end run'.ranks
+-- the status of a run of one task is at most 2
+pub run_small : (run' : RunRecord) → RecordsRun run' → made_status (Some run') ≤ 2
+run_small run' records =
+    let w = world_of run'.setup run'.journal.entries in
+    subst (λ e. status_of e run'.ranks ≤ 2) records.ended (status_small w.last (list_all has_finished w.tasks) run'.ranks)
 
 -- a run that did not go on and has a status below 2 finished
 below_two : (e : End) (ranks : List RankEnd) → e ≢ end.Going → status_of e ranks < 2 → e ≡ end.Finished
 below_two end.Going ranks ends small = absurd (ends refl)
 below_two end.Finished ranks ends small = refl
 below_two (end.Fault task fault line) ranks ends small = absurd (omega (arith, small))
+below_two (end.Abort task code line) ranks ends small = absurd (omega (arith, small))
+below_two end.Stuck ranks ends small = absurd (omega (arith, small))
+below_two end.NoThread ranks ends small = absurd (omega (arith, small))
+below_two end.NoMemory ranks ends small = absurd (omega (arith, small))
 
 is_zero : (b : Bool) → of_all b ≡ 0 → b ≡ true
 unfolding of_all

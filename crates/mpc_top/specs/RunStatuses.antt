@@ -2,19 +2,21 @@
 use Rattle.std.specs.Prelude.{◌≡◌, ◌≢◌, ◌↔◌, ℕ, ℤ, pos, List, [], ◌∷◌, ◌++◌, Option, Some, None}
 use Rattle.std.specs.List.{All, Any}
 use Rattle.mpc_base.specs.declared.journals.Out.{Out}
-use Rattle.mpc_base.specs.declared.journals.Out.TheVariants.{Did, Broke}
+use Rattle.mpc_base.specs.declared.journals.Out.TheVariants.{Waits, Did, Broke}
 use Rattle.mpc_base.specs.declared.journals.Entry.{Entry}
 use Rattle.mpc_base.specs.declared.journals.End.TheVariants as end
 use Rattle.run_model.specs.declared.records.RunRecord.{RunRecord}
-use Rattle.run_model.specs.declared.records.RankState.{RankState}
-use Rattle.run_model.specs.declared.records.RankState.TheVariants as rank
+use Rattle.mpc_base.specs.declared.journals.RankState.{RankState}
+use Rattle.mpc_base.specs.declared.journals.RankState.TheVariants as rank
 use Rattle.run_model.specs.Run.{status_of}
 
 -- main ended with another exit code than 0
 abbrev pub IsBadExit : RankState → Type 0
 IsBadExit (rank.Exit code) = code ≢ pos 0
 IsBadExit rank.Stopped = ⊥
+IsBadExit (rank.Blocked call line) = ⊥
 IsBadExit (rank.Fault fault line) = ⊥
+IsBadExit (rank.Aborted code line) = ⊥
 
 -- All ranks finished, each with the exit code 0.
 pub record FinishedWell (run : RunRecord) : Type 0 where
@@ -28,6 +30,7 @@ pub record FinishedBadly (run : RunRecord) : Type 0 where
 
 -- what became of a call is a fault
 abbrev pub IsFault : Out → Type 0
+IsFault Waits = ⊥
 IsFault (Did answer) = ⊥
 IsFault (Broke fault) = Unit {0}
 

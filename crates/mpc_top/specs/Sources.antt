@@ -1,6 +1,7 @@
 -- Which sources are accepted, and why others are refused.
 use Rattle.std.specs.Prelude.{◌≡◌, ◌≤◌, ◌<◌, ℕ, List, ◌++◌, length, codes, Option, Some, None, is_some, filter, false}
 use Rattle.std.specs.Fmt.{decimal}
+use Rattle.mpc_values.specs.declared.limits.TheConstants.{MAX_SOURCE_BYTES}
 use Rattle.mpc_values.specs.declared.owners.StaticVar.{StaticVar}
 use Rattle.c_lex.specs.declared.tokens.Token.{Token}
 use Rattle.c_lex.specs.Lexed.{Lexed}
@@ -18,13 +19,9 @@ use Rattle.mpc_top.specs.declared.command.Mode.TheVariants as mode
 use Rattle.mpc_top.specs.declared.sources.SourceRefusal.{SourceRefusal}
 use Rattle.mpc_top.specs.declared.sources.SourceRefusal.TheVariants as refusal
 
--- the most bytes of a source
-abbrev pub source_limit : ℕ
-source_limit = 1048576
-
 -- The tokens of a source.
 pub record HasTokens (src : List ℕ) (tokens : List Token) : Type 0 where
-  pub short : length src ≤ source_limit
+  pub short : length src ≤ MAX_SOURCE_BYTES
   pub lexed : Lexed src tokens
 
 -- The tree of a source.
@@ -43,8 +40,8 @@ pub record Accepted (src : List ℕ) (program : Program) : Type 0 where
 -- calls an MPI function, has a single or a barrier, or has a variable with a level.
 abbrev pub RefusesContent : Mode → SourceRefusal → List ℕ → Type 0
 RefusesContent m refusal.Missing src = ⊥
-RefusesContent m refusal.TooLong src = source_limit < length src
-RefusesContent m (refusal.Lex at) src = (length src ≤ source_limit) × lexed.RefusedAt src at
+RefusesContent m refusal.TooLong src = MAX_SOURCE_BYTES < length src
+RefusesContent m (refusal.Lex at) src = (length src ≤ MAX_SOURCE_BYTES) × lexed.RefusedAt src at
 RefusesContent m (refusal.Parse at) src = (tokens : List Token) × HasTokens src tokens × parsed.RefusedAt src tokens at
 RefusesContent m (refusal.Type broken) src = (tree : Tree) × HasTree src tree × typing.Refused tree broken
 RefusesContent mode.Check refusal.NotBuilt src = ⊥

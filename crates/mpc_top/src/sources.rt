@@ -1,5 +1,6 @@
 //! The way of a source to its typed program, or to why it is refused.
 ghost use Rattle.std.specs.Prelude.{◌≡◌, ◌≤◌, length, IfOk, IfErr, string_bytes};
+ghost use Rattle.mpc_values.specs.declared.limits.TheConstants.{MAX_SOURCE_BYTES};
 ghost use Rattle.c_tree.specs.ProgramOf.{program_of};
 ghost use Rattle.mpc_top.specs.Sources.{Accepted, RefusesContent, refusal_line, accepted_line, counts_line, shared_of};
 ghost use Rattle.mpc_top.specs.declared.command.Mode.{Mode};
@@ -10,18 +11,16 @@ use c_parse::{ParseRefusal, parse};
 use c_tree::program::Program;
 use c_tree::syntax::Tree;
 use c_types::{TypeRefusal, check};
+use mpc_base::limits::MAX_SOURCE_BYTES;
 use mpc_base::Memory;
 use std::alloc::{AllocError, Global};
-
-/// The most bytes of a source.
-pub const SOURCE_LIMIT: usize = 1_048_576;
 
 /// Why a source is refused.
 #[derive(Clone, Copy, Debug, PartialEq, Eq)]
 pub enum SourceRefusal {
     /// There is no such file.
     Missing,
-    /// It has more than 1,048,576 bytes.
+    /// It has more bytes than a source may have.
     TooLong,
     /// No token begins at a byte.
     Lex(LexRefusal),
@@ -61,7 +60,7 @@ impl SourceRefusal {
 /// The typed program of a source, or the first cause for which it is refused: no token begins at a
 /// byte, the tokens spell no tree, a rule is broken.
 pub fn accept(alloc: Global, src: &[u8]) -> Result<Result<Program, SourceRefusal>, Memory>
-    requires small { length src.now ≤ 1048576 }
+    requires small { length src.now ≤ MAX_SOURCE_BYTES }
     ensures program { IfOk result (λ r. IfOk r (λ p. Accepted src.now (program_of p))) }
     ensures refused { IfOk result (λ r. IfErr r (λ q. (mode : Mode) → RefusesContent mode q src.now)) }
 {

@@ -3,15 +3,18 @@ ghost use Rattle.std.specs.Prelude.{◌≡◌};
 ghost use Rattle.std.specs.List.{list_all};
 ghost use Rattle.run_model.specs.Run as runs;
 
-use mpc_base::End;
-use run_model::{RankEnd, RankState, RunRecord};
+use mpc_base::{End, RankEnd, RankState};
+use run_model::RunRecord;
 
 fn is_zero_exit(state: &RankState) -> bool
     ensures { result ≡ runs.is_zero_exit state.now }
 {
     match *state {
         RankState::Exit(code) => code == 0,
-        RankState::Stopped | RankState::Fault { .. } => false,
+        RankState::Stopped
+        | RankState::Blocked { .. }
+        | RankState::Fault { .. }
+        | RankState::Aborted { .. } => false,
     }
 }
 
@@ -22,7 +25,8 @@ fn all_exit_zero(ranks: &[RankEnd]) -> bool
 }
 
 /// The exit status of a run: 0 where all ranks finished with the exit code 0, 1 where all finished and
-/// some exit code is another, and 2 where a fault ended the run.
+/// some exit code is another, 2 where a fault ended the run, 3 where it is stuck, and 4 where a rank aborted
+/// it; 9 where a thread and 10 where memory was not found. A run that goes on has none.
 pub fn status_of(run: &RunRecord) -> u8
     ensures { result ≡ runs.status_of run.now.end run.now.ranks }
 {
@@ -36,5 +40,9 @@ pub fn status_of(run: &RunRecord) -> u8
             }
         }
         End::Fault { .. } => 2,
+        End::Abort { .. } => 4,
+        End::Stuck => 3,
+        End::NoThread => 9,
+        End::NoMemory => 10,
     }
 }

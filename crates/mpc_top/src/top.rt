@@ -2,6 +2,7 @@
 ghost use Rattle.std.specs.Prelude.{◌≡◌, ◌≢◌, ◌≤◌, ◌↔◌, ℕ, Option, length, map, string_bytes, None, Some, IfOk, IfErr, IfSome, IsSome, ◌⊎◌, true};
 ghost use Rattle.mpc_base.specs.Causes.{Rose};
 ghost use Rattle.mpc_base.specs.Told.{content_of};
+ghost use Rattle.mpc_values.specs.declared.limits.TheConstants.{MAX_SOURCE_BYTES};
 ghost use Rattle.c_tree.specs.ProgramOf.{program_of};
 ghost use Rattle.c_compile.specs.Correct.{HasMain};
 ghost use Rattle.c_compile.specs.Plain.{is_plain};
@@ -17,10 +18,11 @@ use crate::command::{Mode, source_named};
 use crate::outputs::write_all;
 use crate::plain::is_plain;
 use crate::refusals::Refusal;
-use crate::sources::{SOURCE_LIMIT, SourceRefusal, accept, accepted_text};
+use crate::sources::{SourceRefusal, accept, accepted_text};
 use crate::statuses::status_of;
 use c_tree::program::Program;
 use journal::report;
+use mpc_base::limits::MAX_SOURCE_BYTES;
 use mpc_base::{Files, Memory, ReadAnswer, Sink};
 use run_model::{RunRecord, Setup};
 use serial_run::run_serial;
@@ -52,11 +54,11 @@ fn read_source<F: Files>(
     requires named { NamesSource (map string_bytes words.now) mode name.now }
     ensures told { F.told files.new ≡ F.told files.old }
     ensures calm { IfOk result (λ src. Rose (F.faults files.old) (F.faults files.new) → ⊥) }
-    ensures short { IfOk result (λ src. length src.items ≤ 1048576) }
+    ensures short { IfOk result (λ src. length src.items ≤ MAX_SOURCE_BYTES) }
     ensures content { IfOk result (λ src. IfSome (F.told files.old) (λ store. content_of store name.now ≡ Some src.items)) }
     ensures refused { IfErr result (λ refusal. Holds refusal (map string_bytes words.now) (F.told files.old) (F.faults files.old) (F.faults files.new)) }
 {
-    match files.read(alloc, name, SOURCE_LIMIT) {
+    match files.read(alloc, name, MAX_SOURCE_BYTES) {
         ReadAnswer::Bytes(src) => Ok(src),
         ReadAnswer::Missing => Err(Refusal::Source(SourceRefusal::Missing)),
         ReadAnswer::TooLong => Err(Refusal::Source(SourceRefusal::TooLong)),
@@ -98,7 +100,7 @@ fn serial_text(alloc: Global, program: Program) -> Result<Made, Memory>
 
 // What a mode makes of a source, or why the source is refused.
 fn make(alloc: Global, mode: Mode, src: &[u8]) -> Result<Result<Made, SourceRefusal>, Memory>
-    requires small { length src.now ≤ 1048576 }
+    requires small { length src.now ≤ MAX_SOURCE_BYTES }
     ensures made { IfOk result (λ r. IfOk r (λ made. MadeOf mode src.now made.text.items made.kept)) }
     ensures status { IfOk result (λ r. IfOk r (λ made. made.status ≡ made_status made.kept)) }
     ensures refused { IfOk result (λ r. IfErr r (λ refusal. RefusesContent mode refusal src.now)) }
@@ -167,7 +169,7 @@ fn show<K: Sink>(out: &mut K, text: &[u8], status: u8) -> u8
 
 // What is done with a source that was read.
 fn answer_source<K: Sink>(alloc: Global, mode: Mode, src: &[u8], out: &mut K) -> Top
-    requires small { length src.now ≤ 1048576 }
+    requires small { length src.now ≤ MAX_SOURCE_BYTES }
     ensures { SourceAnswered mode src.now result.status result.kept (K.taken out.old) (K.taken out.new) (K.faults out.old) (K.faults out.new) }
 {
     match make(alloc, mode, src) {

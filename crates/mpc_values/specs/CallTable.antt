@@ -1,5 +1,5 @@
 -- The table of calls by number and name, and the names of faults.
-use Rattle.std.specs.Prelude.{ℕ, List, codes}
+use Rattle.std.specs.Prelude.{ℕ, Bool, List, [], ◌∷◌, codes, cond, nat_eq}
 use Rattle.mpc_values.specs.declared.calls.Call.{Call}
 use Rattle.mpc_values.specs.declared.calls.Call.TheVariants as call
 use Rattle.mpc_values.specs.declared.faults.Fault.{Fault}
@@ -66,6 +66,39 @@ call_name (call.HlsWait construct) = codes "await"
 call_name (call.HlsExit construct) = codes "exit"
 call_name (call.HlsBar construct) = codes "bar"
 call_name (call.HlsBarWait construct) = codes "barwait"
+
+-- the name of the call of this number; no bytes where no call has it
+abbrev pub name_of_number : ℕ → List ℕ
+name_of_number number =
+    cond (nat_eq number 1) (codes "load") (
+    cond (nat_eq number 2) (codes "store") (
+    cond (nat_eq number 3) (codes "new") (
+    cond (nat_eq number 4) (codes "drop") (
+    cond (nat_eq number 5) (codes "malloc") (
+    cond (nat_eq number 6) (codes "free") (
+    cond (nat_eq number 7) (codes "print") (
+    cond (nat_eq number 8) (codes "broke") (
+    cond (nat_eq number 9) (codes "finish") (
+    cond (nat_eq number 10) (codes "init") (
+    cond (nat_eq number 11) (codes "finalize") (
+    cond (nat_eq number 12) (codes "abort") (
+    cond (nat_eq number 13) (codes "rank") (
+    cond (nat_eq number 14) (codes "size") (
+    cond (nat_eq number 15) (codes "send") (
+    cond (nat_eq number 16) (codes "recv") (
+    cond (nat_eq number 17) (codes "complete") (
+    cond (nat_eq number 18) (codes "test") (
+    cond (nat_eq number 19) (codes "any") (
+    cond (nat_eq number 20) (codes "probe") (
+    cond (nat_eq number 21) (codes "iprobe") (
+    cond (nat_eq number 22) (codes "arrive") (
+    cond (nat_eq number 23) (codes "leave") (
+    cond (nat_eq number 24) (codes "enter") (
+    cond (nat_eq number 25) (codes "await") (
+    cond (nat_eq number 26) (codes "exit") (
+    cond (nat_eq number 27) (codes "bar") (
+    cond (nat_eq number 28) (codes "barwait") (
+    []))))))))))))))))))))))))))))
 
 -- a fault's name
 abbrev pub fault_name : Fault → List ℕ

@@ -210,4 +210,41 @@ impl Call {
             Call::HlsBarWait { .. } => "barwait",
         }
     }
+
+    /// The name of the call of this number, as reports and journals write it; empty where there is none.
+    pub fn name_of(number: u8) -> &'static str
+        ensures { result.now ≡ table.name_of_number number }
+    {
+        match number {
+            1 => "load",
+            2 => "store",
+            3 => "new",
+            4 => "drop",
+            5 => "malloc",
+            6 => "free",
+            7 => "print",
+            8 => "broke",
+            9 => "finish",
+            10 => "init",
+            11 => "finalize",
+            12 => "abort",
+            13 => "rank",
+            14 => "size",
+            15 => "send",
+            16 => "recv",
+            17 => "complete",
+            18 => "test",
+            19 => "any",
+            20 => "probe",
+            21 => "iprobe",
+            22 => "arrive",
+            23 => "leave",
+            24 => "enter",
+            25 => "await",
+            26 => "exit",
+            27 => "bar",
+            28 => "barwait",
+            _ => "",
+        }
+    }
 }

@@ -34,7 +34,7 @@ pub const MAX_TASKS: u32 = 64;
 pub const MAX_CORES: usize = 256;
 
 /// The deepest call of a function; main is at depth 1.
-pub const MAX_DEPTH: u32 = 1_024;
+pub const MAX_DEPTH: usize = 1_024;
 
 /// The most turns of loops and calls of functions that a task may make.
 pub const MAX_TURNS: u32 = 10_000_000;

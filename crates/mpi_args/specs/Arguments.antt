@@ -1,6 +1,7 @@
 -- Which peers and tags a call may name (MPI 3.1, sections 3.2.3, 3.2.4 and 3.11).
 use Rattle.std.specs.Prelude.{ℕ, ℤ, pos, negsuc, Bool, ◌&&◌, ◌||◌, int_lt, int_le}
 use Rattle.std.specs.Ordering.{int_eq}
+use Rattle.mpi_args.specs.declared.arguments.TheConstants.{LAST_TAG}
 
 -- MPI_ANY_SOURCE and MPI_ANY_TAG, both -1
 abbrev pub is_any : ℤ → Bool
@@ -16,7 +17,7 @@ is_in_group z size = int_le (pos 0) z && int_lt z (pos size)
 
 -- a tag that a message can have: 0 to 32,767
 abbrev pub is_tag : ℤ → Bool
-is_tag z = int_le (pos 0) z && int_le z (pos 32767)
+is_tag z = int_le (pos 0) z && int_le z LAST_TAG
 
 -- a peer that a call may name; a receive or a probe, which is wild, may name any source
 abbrev pub is_peer : ℤ → ℕ → Bool → Bool

@@ -1,6 +1,7 @@
 -- What a queue of postings is, and which posting a new one meets.
 use Rattle.std.specs.Prelude.{ℕ, ◌+◌, ◌≤◌, ◌<◌, not, ◌==◌, List, ◌∷◌, [], ◌++◌, Option, Some, None, find, filter, All, AllPairs}
 use Rattle.std.specs.Option.{option_map}
+use Rattle.mpc_values.specs.declared.limits.TheConstants.{MAX_GIVEN}
 use Rattle.mpi_queue.specs.declared.postings.Posting.{Posting}
 use Rattle.mpi_queue.specs.Fits.{is_match}
 
@@ -29,6 +30,6 @@ posted q p = posted_with q p (partner q.waiting p)
 
 -- numbers rise, and each is one that was given
 pub record IsCounted (q : Matching) : Type 0 where
-  pub few : q.made ≤ 4294967000
+  pub few : q.made ≤ MAX_GIVEN
   pub rising : AllPairs (λ a b. a.0 < b.0) q.waiting
   pub given : All (λ w. w.0 ≤ q.made) q.waiting

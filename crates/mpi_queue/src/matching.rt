@@ -1,5 +1,6 @@
 //! The queue of postings that wait for a partner.
 ghost use Rattle.std.specs.Prelude.{◌≡◌, ◌+◌, ◌<◌, [], IfOk, OnOk, OnErr};
+ghost use Rattle.mpc_values.specs.declared.limits.TheConstants.{MAX_GIVEN};
 ghost use Rattle.mpi_queue.specs.Matching.{partner, without, posted, IsCounted};
 
 use crate::postings::{Posting, can_meet};
@@ -40,7 +41,7 @@ impl Queue {
     /// a partner waits. After want of memory the queue is as it was.
     #[tactic(auto, unfolding(crate::specs::Matching::posted))]
     pub fn post(&mut self, p: Posting) -> Result<(u32, Option<u32>), Memory>
-        requires { self.old.made < 4294967000 }
+        requires { self.old.made < MAX_GIVEN }
         ensures number { IfOk result (λ r. r.0 ≡ self.old.made + 1) }
         ensures partner { IfOk result (λ r. r.1 ≡ partner self.old.waiting p) }
         ensures after { OnOk result (self.new ≡ posted self.old p) }

@@ -8,7 +8,7 @@ use Rattle.mpc_values.specs.declared.calls.Call.TheVariants as call
 use Rattle.mpc_values.specs.declared.answers.Answer.{Answer}
 use Rattle.mpc_values.specs.declared.answers.Answer.TheVariants.{Gives}
 use Rattle.mpc_base.specs.declared.journals.Out.{Out}
-use Rattle.mpc_base.specs.declared.journals.Out.TheVariants.{Did, Broke}
+use Rattle.mpc_base.specs.declared.journals.Out.TheVariants.{Waits, Did, Broke}
 use Rattle.mpc_values.specs.declared.faults.Fault.TheVariants.{Calls, OutputFull}
 use Rattle.mpc_base.specs.declared.journals.Entry.{Entry}
 use Rattle.mpc_base.specs.declared.journals.End.TheVariants.{Going}
@@ -76,6 +76,7 @@ pub record Answered (w : World) (state : TaskState) (call : Call) (after : World
 abbrev pub LeavesOut : World → TaskState → Call → World → Out → Type 0
 LeavesOut w state call after (Did answer) = Answered w state call after answer
 LeavesOut w state call after (Broke fault) = is_some after.last ≡ true
+LeavesOut w state call after Waits = ⊥
 
 abbrev pub Leaves : World → TaskState → Call → Step → Type 0
 Leaves w state call Stays = call_number call ≤ 9 → ⊥
@@ -140,6 +141,7 @@ module _ (setup : Setup) (entries : List Entry) (call : Call) (line : ℕ) (asks
       let put : after.answers ≡ (answers_of here 0 ++ given ∷ []) ∷ [] = leaves.answers ∙ ap (λ all. slice_set all 0 (answers_of here 0 ++ given ∷ [])) bound.replies in
       ap (λ all. answers_at (slice_get all 0)) put ∙ ap (λ a. answers_of here 0 ++ a ∷ []) same
   answered_out answer after (Broke fault) leaves replied = absurd (cc replied)
+  answered_out answer after Waits leaves replied = absurd leaves
 
   answered_step : (ended : Bool) (answer : Answer) (step : Step) → go setup here 0 ≡ step → Leaves here bound.state call step → reply_of ended step ≡ DidReply answer
       → answers_of (world_of setup (made entries step)) 0 ≡ answers_of here 0 ++ answer ∷ []
@@ -160,6 +162,7 @@ module _ (setup : Setup) (entries : List Entry) (call : Call) (line : ℕ) (asks
       plain true = refl
       plain false = refl
   finished_out going answer after (Broke fault) leaves replied = absurd (cc replied)
+  finished_out going answer after Waits leaves replied = absurd leaves
 
   finished_step : has_ended here ≡ false → (ended : Bool) (answer : Answer) (step : Step) → go setup here 0 ≡ step → Leaves here bound.state call step → reply_of ended step ≡ DidReply answer
       → has_ended (world_of setup (made entries step)) ≡ (call_number call == 9)
@@ -169,6 +172,7 @@ module _ (setup : Setup) (entries : List Entry) (call : Call) (line : ℕ) (asks
   stopped_out : (after : World) (out : Out) → LeavesOut here bound.state call after out → reply_to out ≡ Stop → has_ended after ≡ true
   stopped_out after (Did given) leaves replied = absurd (cc replied)
   stopped_out after (Broke fault) leaves replied = ap (λ b. b || list_all has_finished after.tasks) leaves
+  stopped_out after Waits leaves replied = absurd leaves
 
   stopped_step : call_number call ≤ 9 → (ended : Bool) (step : Step) → go setup here 0 ≡ step → Leaves here bound.state call step → reply_of ended step ≡ Stop
       → has_ended (world_of setup (made entries step)) ≡ true

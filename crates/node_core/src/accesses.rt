@@ -9,11 +9,9 @@ use crate::objects::Object;
 use crate::places::Places;
 use crate::ranges::range_of;
 use memory_model::Kind;
+use mpc_base::limits::DEFAULT_QUOTA;
 use mpc_base::{Answer, Fault, Memory, Obj, Word};
 use std::alloc::Global;
-
-/// The most words that a task's live locals and blocks have together.
-const QUOTA: u32 = 65536;
 
 // What a place gives that holds this word.
 fn given(word: Option<&Word>) -> Result<Answer, Fault>
@@ -66,7 +64,7 @@ pub fn new(alloc: Global, places: &mut Places, len: u32) -> Result<Result<Answer
     ensures fault { IfOk result (λ did. OnErr did (places.new ≡ places.old)) }
     ensures err { OnErr result (places.new ≡ places.old) }
 {
-    if u64::from(places.live()) + u64::from(len) <= u64::from(QUOTA) {
+    if u64::from(places.live()) + u64::from(len) <= u64::from(DEFAULT_QUOTA) {
         Ok(Ok(make(alloc, places, Kind::Local, len)?))
     } else {
         Ok(Err(Fault::StackFull))
@@ -77,7 +75,7 @@ pub fn new(alloc: Global, places: &mut Places, len: u32) -> Result<Result<Answer
 fn words_asked(n: i64) -> Option<u32>
     ensures { MatchOption result ((o : Objects) → malloc quota 0 o n ≡ access_seen o (Ok (Answer.Gives Word.Null))) (λ len. n ≡ pos len) }
 {
-    if n < 0 || n > i64::from(QUOTA) {
+    if n < 0 || n > i64::from(DEFAULT_QUOTA) {
         return None;
     }
     Some(n as u32)
@@ -93,7 +91,7 @@ pub fn malloc(alloc: Global, places: &mut Places, n: i64) -> Result<Answer, Memo
     let Some(len) = words_asked(n) else {
         return Ok(Answer::Gives(Word::Null));
     };
-    if u64::from(places.live()) + u64::from(len) <= u64::from(QUOTA) {
+    if u64::from(places.live()) + u64::from(len) <= u64::from(DEFAULT_QUOTA) {
         make(alloc, places, Kind::Block, len)
     } else {
         Ok(Answer::Gives(Word::Null))

@@ -6,11 +6,9 @@ ghost use Rattle.node_core.specs.Seen.{act_seen, task_seen};
 
 use crate::accesses::{drop, free, load, malloc, new, store};
 use crate::places::Places;
+use mpc_base::limits::MAX_OUTPUT_BYTES;
 use mpc_base::{Answer, Call, Fault, Memory, Word};
 use std::alloc::Global;
-
-/// The most bytes of output that a task may print.
-const OUTPUT_LIMIT: usize = 1_048_576;
 
 /// Puts bytes behind the task's output, or is OutputFull.
 fn print(output: &mut Vec<u8>, text: &[u8]) -> Result<Result<Answer, Fault>, Memory>
@@ -18,7 +16,7 @@ fn print(output: &mut Vec<u8>, text: &[u8]) -> Result<Result<Answer, Fault>, Mem
     ensures fault { IfOk result (λ did. OnErr did (output.new.items ≡ output.old.items)) }
     ensures err { OnErr result (output.new.items ≡ output.old.items) }
 {
-    if text.len() <= OUTPUT_LIMIT && output.len() <= OUTPUT_LIMIT - text.len() {
+    if text.len() <= MAX_OUTPUT_BYTES && output.len() <= MAX_OUTPUT_BYTES - text.len() {
         output.extend_from_slice(text)?;
         Ok(Ok(Answer::Gives(Word::Int(text.len() as i64))))
     } else {

@@ -8,8 +8,10 @@ ghost use Rattle.run_model.specs.Run.{world_of, ending, rank_state, LegalRun, Re
 ghost use Rattle.node_core.specs.Visits.{made, reply_of, reply_to};
 
 use crate::state::State;
-use mpc_base::{Answer, Call, End, Entries, Entry, Journal, Memory, Out, Text};
-use run_model::{Last, RankEnd, RankEnds, RankState, RunRecord, Setup};
+use mpc_base::{
+    Answer, Call, End, Entries, Entry, Journal, Memory, Out, RankEnd, RankEnds, RankState, Text,
+};
+use run_model::{Last, RunRecord, Setup};
 use std::alloc::Global;
 use std::marker::Model;
 
@@ -142,7 +144,7 @@ fn reply_to(out: Out) -> Reply
 {
     match out {
         Out::Did(answer) => Reply::Did(answer),
-        Out::Broke(_) => Reply::Stop,
+        Out::Broke(_) | Out::Waits => Reply::Stop,
     }
 }
 

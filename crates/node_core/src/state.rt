@@ -8,12 +8,10 @@ ghost use Rattle.node_core.specs.Worlds.{world_seen, answers_after, state_of, ou
 
 use crate::acts::act;
 use crate::places::Places;
-use mpc_base::{Call, End, Fault, Memory, Out, StaticVar};
+use mpc_base::limits::DEFAULT_CALLS;
+use mpc_base::{Answer, Call, End, Fault, Memory, Out, StaticVar};
 use run_model::Last;
 use std::alloc::Global;
-
-/// The most entries that a task may have in the journal.
-const CALLS_LIMIT: u32 = 250_000;
 
 /// What stands of a run of one task, beside its entries.
 #[derive(Debug, Drop)]
@@ -70,28 +68,25 @@ impl State {
     }
 
     // What becomes of a call, before it is counted.
-    fn try_call(&mut self, alloc: Global, call: &Call) -> Result<Out, Memory>
+    fn try_call(&mut self, alloc: Global, call: &Call) -> Result<Result<Answer, Fault>, Memory>
         requires built { call_number call.now ≤ 9 }
         requires room { self.old.places.made < 2 ^ 32 - 1 }
-        ensures ok { IfOk result (λ out. outcome self.new out ≡ tried self.old.count self.old call.now) }
+        ensures ok { IfOk result (λ done. outcome self.new done ≡ tried self.old.count self.old call.now) }
         ensures count { self.new.count ≡ self.old.count }
         ensures last { self.new.last ≡ self.old.last }
-        ensures fault { IfOk result (λ out. FaultsLeave self.old self.new out) }
+        ensures fault { IfOk result (λ done. FaultsLeave self.old self.new done) }
         ensures err { OnErr result (SameState self.old self.new) }
     {
-        if CALLS_LIMIT <= self.count {
-            return Ok(Out::Broke(Fault::Calls));
+        if DEFAULT_CALLS <= self.count {
+            return Ok(Err(Fault::Calls));
         }
-        match act(
+        act(
             alloc,
             &mut self.places,
             &mut self.output,
             &mut self.exit,
             call,
-        )? {
-            Ok(answer) => Ok(Out::Did(answer)),
-            Err(fault) => Ok(Out::Broke(fault)),
-        }
+        )
     }
 
     /// Does a call of the task, one of 1 to 9, and counts its entry. A fault ends the run. After want of
@@ -103,15 +98,18 @@ impl State {
         ensures ok { IfOk result (λ out. (answers : List (List Answer)) → visited (world_seen answers self.old) 0 (state_of self.old) call.now line ≡ Makes (entry_of 0 call.now line out) (world_seen (answers_after answers out) self.new)) }
         ensures err { OnErr result (SameState self.old self.new) }
     {
-        let out = self.try_call(alloc, call)?;
+        let done = self.try_call(alloc, call)?;
         self.count += 1;
-        if let Out::Broke(fault) = out {
-            self.last = Some(Last {
-                task: 0,
-                fault,
-                line,
-            });
+        match done {
+            Ok(answer) => Ok(Out::Did(answer)),
+            Err(fault) => {
+                self.last = Some(Last {
+                    task: 0,
+                    fault,
+                    line,
+                });
+                Ok(Out::Broke(fault))
+            }
         }
-        Ok(out)
     }
 }

@@ -9,8 +9,10 @@ use crate::state::State;
 use crate::{Node, Reply, runs_begin_and_end, visits_leave_runs};
 use c_tree::Globals;
 use c_tree::program::{Constructs, Ending, Function, Params, Program};
-use mpc_base::{Answer, Call, End, Entry, Fault, Memory, Obj, Out, StaticVar, Text, Word, Words};
-use run_model::{RankState, Setup};
+use mpc_base::{
+    Answer, Call, End, Entry, Fault, Memory, Obj, Out, RankState, StaticVar, Text, Word, Words,
+};
+use run_model::Setup;
 use std::alloc::Global;
 use std::test::*;
 

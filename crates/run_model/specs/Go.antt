@@ -1,6 +1,7 @@
 -- One step of one task.
 use Rattle.std.specs.Prelude.{ℕ, pos, ◌+◌, Bool, ◌||◌, if◌then◌else◌, List, [], ◌∷◌, ◌++◌, length, nat_le, slice_get, slice_index, slice_set, Option, Some, None, is_some}
 use Rattle.std.specs.List.{list_all}
+use Rattle.mpc_values.specs.declared.limits.TheConstants.{DEFAULT_QUOTA, MAX_OUTPUT_BYTES, DEFAULT_CALLS}
 use Rattle.mpc_values.specs.declared.values.Word.TheVariants.{Int}
 use Rattle.mpc_values.specs.declared.calls.Call.{Call}
 use Rattle.mpc_values.specs.declared.calls.Call.TheVariants as call
@@ -29,15 +30,15 @@ pub data Act : Type 0 where
 
 -- the most words that a task's live locals and blocks have together
 abbrev pub quota : ℕ
-quota = 65536
+quota = DEFAULT_QUOTA
 
 -- the most bytes of output that a task may print
 abbrev pub output_limit : ℕ
-output_limit = 1048576
+output_limit = MAX_OUTPUT_BYTES
 
 -- the most entries that a task may have in the journal
 abbrev pub calls_limit : ℕ
-calls_limit = 250000
+calls_limit = DEFAULT_CALLS
 
 -- the objects that an access of a task finds
 abbrev pub objects_of : Memory → TaskState → Objects

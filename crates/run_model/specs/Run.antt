@@ -8,9 +8,9 @@ use Rattle.mpc_base.specs.declared.journals.End.{End}
 use Rattle.mpc_base.specs.declared.journals.End.TheVariants as end
 use Rattle.run_model.specs.declared.records.Setup.{Setup}
 use Rattle.run_model.specs.declared.records.RunRecord.{RunRecord}
-use Rattle.run_model.specs.declared.records.RankEnd.{RankEnd}
-use Rattle.run_model.specs.declared.records.RankState.{RankState}
-use Rattle.run_model.specs.declared.records.RankState.TheVariants as rank
+use Rattle.mpc_base.specs.declared.journals.RankEnd.{RankEnd}
+use Rattle.mpc_base.specs.declared.journals.RankState.{RankState}
+use Rattle.mpc_base.specs.declared.journals.RankState.TheVariants as rank
 use Rattle.run_model.specs.declared.lasts.Last.{Last}
 use Rattle.run_model.specs.World.{World, TaskState, start, tasks_of}
 use Rattle.run_model.specs.Go.{Step, Stays, Makes, go, has_finished}
@@ -87,11 +87,18 @@ pub record RecordsRun (record' : RunRecord) : Type 0 where
 abbrev pub is_zero_exit : RankState → Bool
 is_zero_exit (rank.Exit code) = int_eq code (pos 0)
 is_zero_exit rank.Stopped = false
+is_zero_exit (rank.Blocked call line) = false
 is_zero_exit (rank.Fault fault line) = false
+is_zero_exit (rank.Aborted code line) = false
 
--- The exit status of a run that has ended: 0 where it finished and every exit code is 0, else 1; 2 for a fault. A run
--- that goes on has none, and 0 stands for it.
+-- The exit status of a run that has ended: 0 where it finished and every exit code is 0, else 1; 2 for a fault, 3 where it
+-- is stuck, 4 for an abort, 9 where a thread could not be started, 10 where a worker found no memory. A run that goes on has
+-- none, and 0 is written for it.
 abbrev pub status_of : End → List RankEnd → ℕ
 status_of end.Going ranks = 0
 status_of end.Finished ranks = if list_all (λ rank_end. is_zero_exit rank_end.state) ranks then 0 else 1
 status_of (end.Fault task fault line) ranks = 2
+status_of (end.Abort task code line) ranks = 4
+status_of end.Stuck ranks = 3
+status_of end.NoThread ranks = 9
+status_of end.NoMemory ranks = 10

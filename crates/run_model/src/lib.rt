@@ -8,7 +8,7 @@ mod records;
 
 pub use lasts::Last;
 pub use laws::{legal_runs_go_on, runs_are_bounded, runs_go_on_by_one_step};
-pub use records::{RankEnd, RankEnds, RankState, RunRecord, Setup};
+pub use records::{RunRecord, Setup};
 
 #[cfg(test)]
 mod tests;

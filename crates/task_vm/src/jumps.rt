@@ -10,10 +10,7 @@ use crate::machine::{Machine, Step, breaks};
 use crate::words::int_of;
 use c_code::{Code, Entry};
 use c_tree::words::holds;
-use mpc_values::{Call, Fault, Memory};
-
-/// How many calls may wait for a function: 1,024 may be open.
-const MAX_WAITING: usize = 1023;
+use mpc_values::{Call, Fault, Memory, limits};
 
 impl Machine {
     pub(crate) fn unless(&mut self, over: u32) -> Step
@@ -104,7 +101,7 @@ impl Machine {
         if self.turns == 0 {
             return Ok(breaks(call, Fault::Turns, line));
         }
-        if self.frames.depth() >= MAX_WAITING {
+        if self.frames.depth() >= limits::MAX_DEPTH - 1 {
             return Ok(breaks(call, Fault::Depth, line));
         }
         let Some(entry) = code.entries().get(function as usize) else {

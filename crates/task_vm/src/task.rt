@@ -15,13 +15,10 @@ use crate::machine::{Machine, Step};
 use crate::stack::Stack;
 use crate::states::{State, Want};
 use c_code::Code;
-use mpc_values::{Answer, Call, Memory, Word};
+use mpc_values::{Answer, Call, Memory, Word, limits};
 use std::alloc::Global;
 use std::marker::Model;
 use std::sync::Arc;
-
-/// How many turns of loops and function calls a task may make.
-const TURNS: u32 = 10_000_000;
 
 /// A task that runs the code of a program, from one call to the next.
 #[derive(Drop)]
@@ -59,7 +56,7 @@ fn begin(alloc: Global, code: &Code) -> Result<Machine, Memory>
         stack: Stack::new(alloc),
         frames,
         line: 0,
-        turns: TURNS,
+        turns: limits::MAX_TURNS,
         script: None,
     })
 }
