@@ -6,3 +6,4 @@ pub mod MemFilesSeen
 pub mod MemFilesKept
 pub mod MemSinkSeen
 pub mod Starts
+pub mod Outlooks

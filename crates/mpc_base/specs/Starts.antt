@@ -1,13 +1,14 @@
 -- Jobs that were started, and what becomes of the counts of who starts them.
-use Rattle.std.specs.Prelude.{◌≡◌, ℕ, ◌+◌, ◌-◌, ◌^◌, ◌≤◌, min, cond, nat_eq, Result, Ok, Err}
+use Rattle.std.specs.Prelude.{◌≡◌, ℕ, ◌+◌, ◌-◌, ◌^◌, ◌≤◌, min, Result, Ok, Err}
 use Rattle.mpc_base.specs.Causes.{Rose}
 use Rattle.mpc_base.specs.FailLists.{FailsAt, failed_so_far}
 use Rattle.mpc_base.specs.declared.jobs.Started.{Started}
 use Rattle.mpc_base.specs.declared.jobs.StartedAs.{StartedAs}
 use Rattle.mpc_base.specs.declared.jobs.StartedAs.TheVariants.{OnThread, Late}
 use Rattle.mpc_base.specs.declared.listed_spawner.ListedSpawner.{ListedSpawner}
-use Rattle.mpc_base.specs.declared.spawners.Choice.{Choice}
-use Rattle.mpc_base.specs.declared.spawners.Choice.TheVariants as choice
+use Rattle.mpc_base.specs.declared.asks.Choice.{Choice}
+use Rattle.mpc_base.specs.declared.asks.Choice.TheVariants as choice
+use Rattle.mpc_base.specs.declared.asks.Chosen.{Chosen}
 
 abbrev pub job_within : {J Out : Type 0} → StartedAs J Out → J
 job_within (OnThread handle) = handle.promise.0.value
@@ -21,6 +22,10 @@ job_of started = job_within started.way
 pub record SpawnCounts : Type 0 where
   pub faults : ℕ
   pub starts : ℕ
+
+-- what was chosen
+abbrev pub choice_of : {J : Type 0} → Chosen J → Choice
+choice_of chosen = chosen.choice
 
 -- the spawner that starts are handed on to
 abbrev pub inner_of : {S : Type 0} → ListedSpawner S → S
@@ -43,10 +48,6 @@ abbrev pub ChoiceCounts : Choice → ℕ → ℕ → Type 0
 ChoiceCounts choice.Refuse before now = (before ≤ now) × Rose before now
 ChoiceCounts choice.OnThread before now = now ≡ before
 ChoiceCounts choice.Late before now = now ≡ before
-
--- what a spawner over threads chooses, by its count of faults: where the count stands at its end, each start fails
-abbrev pub thread_choice : ℕ → Choice
-thread_choice faults = cond (nat_eq faults (2 ^ 64 - 1)) choice.Refuse choice.OnThread
 
 -- the count of starts around a start
 abbrev pub StartCounts : {T E : Type 0} → Result T E → ℕ → ℕ → Type 0

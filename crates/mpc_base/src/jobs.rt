@@ -23,14 +23,13 @@ impl<J: Job> Promise<J::Out> for Kept<J> {
 }
 
 // On a thread of its own, or kept to be run when it is joined.
-#[derive(Drop)]
 pub(crate) enum StartedAs<J: Job> {
     OnThread(PromisedHandle<J::Out, Kept<J>>),
     Late(J),
 }
 
-/// A job that was started, and remembers it. Only `Spawner::start` makes one.
-#[derive(Drop)]
+/// A job that was started, and remembers it. Only `Spawner::start` makes one, and only `Spawner::join` ends
+/// one: it cannot be dropped.
 pub struct Started<J: Job> {
     pub(crate) way: StartedAs<J>,
 }

@@ -1,8 +1,11 @@
-ghost use Rattle.std.specs.Prelude.{◌≡◌};
-ghost use Rattle.mpc_base.specs.Starts.{ChoiceCounts};
+ghost use Rattle.std.specs.Prelude.{◌≡◌, ◌≤◌};
+ghost use Rattle.mpc_base.specs.Causes.{Rose};
+ghost use Rattle.mpc_base.specs.Outlooks.{Started, FitsOutlook, GoesOn, StaysSure};
+ghost use Rattle.mpc_base.specs.Starts.{choice_of, ChoiceCounts, RoseByOne};
 
+use crate::asks::{Asked, Begun, Choice, Chosen, Event, NoThread, Noted, Runs};
 use crate::jobs::Job;
-use crate::spawners::{Asked, Choice, Spawner};
+use crate::spawners::Spawner;
 use std::alloc::Global;
 use std::marker::Model;
 use std::sync::Arc;
@@ -40,27 +43,48 @@ impl LateSpawner {
 }
 
 impl<J: Job> Spawner<J> for LateSpawner {
+    ghost use Rattle.mpc_base.specs.Outlooks.{Started};
+
     ghost faults = { λ spawner. spawner.faults };
 
     ghost starts = { λ spawner. spawner.starts };
 
-    fn choose(&mut self, _by: &Asked) -> Choice
-        ensures choice { result ≡ Choice.Late }
-        ensures faults { ChoiceCounts result self.old.faults self.new.faults }
+    ghost outlook = { λ _ _. Started };
+
+    fn choose(&mut self, by: Asked<J>) -> Chosen<J>
+        ensures faults { ChoiceCounts (choice_of result) self.old.faults self.new.faults }
         ensures starts { self.new.starts ≡ self.old.starts }
+        ensures fits { FitsOutlook Started (choice_of result) }
+        ensures outlook { GoesOn (λ _. Started) (λ _. Started) }
     {
-        Choice::Late
+        by.with(Choice::Late)
     }
 
-    fn note_start(&mut self, _by: &Asked) {
+    fn note_start(&mut self, by: Event<J, Begun>) -> Noted<J, Begun>
+        ensures faults { self.new.faults ≡ self.old.faults }
+        ensures starts { RoseByOne self.old.starts self.new.starts }
+        ensures outlook { StaysSure (λ _. Started) (λ _. Started) }
+    {
         self.starts = self.starts.saturating_add(1);
+        by.noted()
     }
 
-    fn note_fault(&mut self, _by: &Asked) {
+    fn note_fault(&mut self, by: Event<J, NoThread>) -> Noted<J, NoThread>
+        ensures faults { Rose self.old.faults self.new.faults }
+        ensures later { self.old.faults ≤ self.new.faults }
+        ensures starts { self.new.starts ≡ self.old.starts }
+        ensures outlook { StaysSure (λ _. Started) (λ _. Started) }
+    {
         self.faults = self.faults.saturating_add(1);
+        by.noted()
     }
 
-    fn note_run(&mut self, _by: &Asked, runs: bool) {
+    fn note_run(&mut self, by: Event<J, Runs>, runs: bool) -> Noted<J, Runs>
+        ensures faults { self.new.faults ≡ self.old.faults }
+        ensures starts { self.new.starts ≡ self.old.starts }
+        ensures outlook { StaysSure (λ _. Started) (λ _. Started) }
+    {
         self.mark.store(u32::from(runs), Ordering::SeqCst);
+        by.noted()
     }
 }

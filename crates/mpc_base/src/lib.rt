@@ -2,6 +2,7 @@
 //! outside, and jobs on threads. It hands on the names of the values below it.
 #![tactic(auto)]
 
+mod asks;
 mod byte_sink;
 mod fail_list;
 mod file_store;
@@ -17,6 +18,7 @@ mod picks;
 mod spawners;
 mod thread_spawner;
 
+pub use asks::{Asked, Begun, Choice, Chosen, Event, NoThread, Noted, Runs};
 pub use byte_sink::Sink;
 pub use file_store::{Files, ReadAnswer, WriteAnswer};
 pub use histories::Traced;
@@ -34,7 +36,7 @@ pub use mpc_values::{
 };
 pub use paces::{FreePace, Pace};
 pub use picks::Picks;
-pub use spawners::{Asked, Choice, Spawner};
+pub use spawners::Spawner;
 pub use thread_spawner::ThreadSpawner;
 
 #[cfg(test)]

@@ -1,7 +1,8 @@
 //! Each of the three spawners once, by its bound.
-ghost use Rattle.std.specs.Prelude.{◌≡◌, IfOk};
+ghost use Rattle.std.specs.Prelude.{◌≡◌, ◌∷◌, [], IfOk};
+ghost use Rattle.mpc_base.specs.Starts.{job_of, refusals_of};
 
-use crate::jobs::Job;
+use crate::jobs::{Job, Started};
 use crate::late_spawner::LateSpawner;
 use crate::listed_spawner::ListedSpawner;
 use crate::paces::{FreePace, Pace};
@@ -51,6 +52,39 @@ fn started_and_joined<S: Spawner<LooksAtMark>, R: Threads + Wait + Clone + Drop 
     };
     let looked = spawner.join(rt, started);
     Some((looked.number, looked.mark))
+}
+
+// A late spawner refuses no start, so that its caller needs no arm for one.
+fn started_late<R: Threads + Wait + Clone + Drop + Send + 'static>(
+    rt: &R,
+    late: &mut LateSpawner,
+    job: LooksAtMark,
+) -> Started<LooksAtMark>
+    ensures { job_of result ≡ job }
+{
+    match late.start(rt, job) {
+        Ok(started) => started,
+        Err(_) => unreachable!(),
+    }
+}
+
+// Of two starts the second is refused where 1 alone is listed, and the first is not.
+fn second_refused<R: Threads + Wait + Clone + Drop + Send + 'static>(
+    rt: &R,
+    listed: &mut ListedSpawner<LateSpawner>,
+    first: LooksAtMark,
+    second: LooksAtMark,
+) -> Started<LooksAtMark>
+    requires { refusals_of listed.old ≡ record { listed = 1 ∷ []; calls = 0 } }
+    ensures { job_of result ≡ first }
+{
+    let Ok(started) = listed.start(rt, first) else {
+        unreachable!()
+    };
+    match listed.start(rt, second) {
+        Ok(_) => unreachable!(),
+        Err(_) => started,
+    }
 }
 
 #[test]

@@ -1,8 +1,11 @@
-ghost use Rattle.std.specs.Prelude.{◌≡◌};
-ghost use Rattle.mpc_base.specs.Starts.{ChoiceCounts, thread_choice};
+ghost use Rattle.std.specs.Prelude.{◌≡◌, ◌≤◌};
+ghost use Rattle.mpc_base.specs.Causes.{Rose};
+ghost use Rattle.mpc_base.specs.Outlooks.{FitsOutlook, GoesOn, StaysSure, thread_outlook};
+ghost use Rattle.mpc_base.specs.Starts.{choice_of, ChoiceCounts, RoseByOne};
 
+use crate::asks::{Asked, Begun, Choice, Chosen, Event, NoThread, Noted, Runs};
 use crate::jobs::Job;
-use crate::spawners::{Asked, Choice, Spawner};
+use crate::spawners::Spawner;
 use std::marker::Model;
 
 /// Starts each job on a thread of std's. A start that finds no thread is a fault; where the count of
@@ -34,29 +37,51 @@ impl ThreadSpawner {
 }
 
 impl<J: Job> Spawner<J> for ThreadSpawner {
+    ghost use Rattle.mpc_base.specs.Outlooks.{thread_outlook};
+
     ghost faults = { λ spawner. spawner.faults };
 
     ghost starts = { λ spawner. spawner.starts };
 
-    fn choose(&mut self, _by: &Asked) -> Choice
-        ensures choice { result ≡ thread_choice self.old.faults }
-        ensures faults { ChoiceCounts result self.old.faults self.new.faults }
+    ghost outlook = { λ spawner _. thread_outlook spawner.faults };
+
+    fn choose(&mut self, by: Asked<J>) -> Chosen<J>
+        ensures faults { ChoiceCounts (choice_of result) self.old.faults self.new.faults }
         ensures starts { self.new.starts ≡ self.old.starts }
+        ensures fits { FitsOutlook (thread_outlook self.old.faults) (choice_of result) }
+        ensures outlook { GoesOn (λ _. thread_outlook self.old.faults) (λ _. thread_outlook self.new.faults) }
     {
         if self.faults == u64::MAX {
-            Choice::Refuse
+            by.with(Choice::Refuse)
         } else {
-            Choice::OnThread
+            by.with(Choice::OnThread)
         }
     }
 
-    fn note_start(&mut self, _by: &Asked) {
+    fn note_start(&mut self, by: Event<J, Begun>) -> Noted<J, Begun>
+        ensures faults { self.new.faults ≡ self.old.faults }
+        ensures starts { RoseByOne self.old.starts self.new.starts }
+        ensures outlook { StaysSure (λ _. thread_outlook self.old.faults) (λ _. thread_outlook self.new.faults) }
+    {
         self.starts = self.starts.saturating_add(1);
+        by.noted()
     }
 
-    fn note_fault(&mut self, _by: &Asked) {
+    fn note_fault(&mut self, by: Event<J, NoThread>) -> Noted<J, NoThread>
+        ensures faults { Rose self.old.faults self.new.faults }
+        ensures later { self.old.faults ≤ self.new.faults }
+        ensures starts { self.new.starts ≡ self.old.starts }
+        ensures outlook { StaysSure (λ _. thread_outlook self.old.faults) (λ _. thread_outlook self.new.faults) }
+    {
         self.faults = self.faults.saturating_add(1);
+        by.noted()
     }
 
-    fn note_run(&mut self, _by: &Asked, _runs: bool) {}
+    fn note_run(&mut self, by: Event<J, Runs>, _runs: bool) -> Noted<J, Runs>
+        ensures faults { self.new.faults ≡ self.old.faults }
+        ensures starts { self.new.starts ≡ self.old.starts }
+        ensures outlook { StaysSure (λ _. thread_outlook self.old.faults) (λ _. thread_outlook self.new.faults) }
+    {
+        by.noted()
+    }
 }

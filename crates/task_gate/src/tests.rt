@@ -154,6 +154,8 @@ fn run_four<R: Threads + Wait + Clone + Drop + Send + 'static>(
         return false;
     };
     let Some((three, four)) = begun(rt, &mut spawner, second) else {
+        finish(rt, gate, own, &mut spawner, one);
+        finish(rt, gate, own, &mut spawner, two);
         return false;
     };
     finish(rt, gate, own, &mut spawner, one);
@@ -175,6 +177,7 @@ fn begun<R: Threads + Wait + Clone + Drop + Send + 'static>(
         return None;
     };
     let Ok(two) = spawner.start(rt, two) else {
+        drop(spawner.join(rt, one));
         return None;
     };
     Some((one, two))
