@@ -12,6 +12,7 @@ use crossbeam_utils::Backoff;
 use mpc_base::Traced;
 use std::snapshot::Snapshot;
 use std::sync::Wait;
+use std::thread;
 
 pub(crate) type GateTable<S> = Shared<Option<S>, View, Snapshot<S>, InTurn>;
 
@@ -36,7 +37,9 @@ pub(crate) fn draw<S: Traced>(table: &GateTable<S>, seat: &mut GateSeat<S>) -> u
     table.fetch_add::<Draw>(seat, DRAWN, 1)
 }
 
-// Looks until the ticket is served, and then has the slot with the value in hand.
+// Looks until the ticket is served, and then has the slot with the value in hand. The pass whose ticket is
+// served next spins between two looks, since its turn is near. Each other yields at once: its turn comes
+// only after another pass has run. The number of tickets ahead wraps as the tickets do.
 pub(crate) fn wait_turn<S: Traced, R: Wait>(
     rt: &R,
     table: &GateTable<S>,
@@ -50,10 +53,15 @@ pub(crate) fn wait_turn<S: Traced, R: Wait>(
 {
     let backoff = Backoff::new();
     for _ in rt.forever() {
-        if table.load::<Look>(seat, SERVED) == ticket {
+        let served = table.load::<Look>(seat, SERVED);
+        if served == ticket {
             return;
         }
-        backoff.snooze();
+        if ticket.wrapping_sub(served) == 1 {
+            backoff.snooze();
+        } else {
+            thread::yield_now();
+        }
     }
     unreachable!()
 }
