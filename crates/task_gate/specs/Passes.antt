@@ -1,5 +1,5 @@
 -- What contracts say of a pass.
-use Rattle.std.specs.Prelude.{◌≡◌, ℕ, ◌<◌, List, [], ◌∷◌, length, Bool, false}
+use Rattle.std.specs.Prelude.{◌≡◌, ℕ, ◌<◌, List, [], ◌∷◌, length, Bool, false, Some, slice_get}
 use base.Stored.{Gv}
 use Rattle.atomic_table.specs.Seated.{TableId}
 use Rattle.task_gate.specs.Rule.{spent, ticket_of, history_of, at_stage, counted_view, leaving}
@@ -80,6 +80,10 @@ leaving_with = leaving
 -- the pass number k of a gate, which has made no item and seen none
 abbrev pub IsNew : TableId → Gv → ℕ → Pass → Type 0
 IsNew z b k p = (gate_of p ≡ z) × (base_of p ≡ b) × IsOutside p × (claims p ≡ (k, []) ∷ [])
+
+-- the passes of a gate by number from 0 on, which have made no item and seen none
+abbrev pub AllNew : TableId → Gv → List Pass → Type 0
+AllNew z b ps = (k : ℕ) (p : Pass) → slice_get ps k ≡ Some p → IsNew z b k p
 
 -- a pass of that gate with that number, which is outside
 abbrev pub IsAt : TableId → ℕ → Pass → Type 0

@@ -9,6 +9,7 @@
 
 mod gates;
 mod items;
+mod laws;
 mod passes;
 mod plays;
 mod steps;
@@ -17,6 +18,7 @@ mod visits;
 
 pub use gates::Gate;
 pub use items::Item;
+pub use laws::gate_laws;
 pub use passes::Pass;
 pub use plays::InTurn;
 pub use views::{Stage, View};

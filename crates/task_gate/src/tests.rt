@@ -7,6 +7,7 @@ ghost use Rattle.task_gate.specs.Names.{gate_id};
 ghost use Rattle.task_gate.specs.Passes.{gate_of, IsAt, IsOutside};
 
 use crate::gates::Gate;
+use crate::laws::gate_laws;
 use crate::passes::Pass;
 use mpc_base::{Job, Spawner, Started, ThreadSpawner, Traced};
 use std::alloc::Global;
@@ -241,6 +242,7 @@ fn visited<R: Threads + Wait + Clone + Drop + Send + 'static>(
 
 #[test]
 fn four_threads_visit_one_gate(rt: HostRuntime) -> Result<(), Fail> {
+    gate_laws();
     let log = visited(&rt, rt.alloc(), 1000);
     assert!(rt; log.is_some());
     if let Some(log) = log {

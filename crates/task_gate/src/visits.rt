@@ -1,11 +1,10 @@
 //! What is done at a gate.
-ghost use Rattle.std.specs.Prelude.{◌≡◌, ◌⊎◌, ℕ, ◌<◌, ◌++◌, ◌∷◌, [], length, vec_len, slice_get, Some, IfOk};
+ghost use Rattle.std.specs.Prelude.{◌≡◌, ◌⊎◌, ℕ, ◌<◌, ◌++◌, ◌∷◌, [], length, vec_len, IfOk};
 ghost use base.Stored.{Gv};
 ghost use Rattle.task_gate.specs.History.{KeepsAll};
 ghost use Rattle.task_gate.specs.Names.{gate_id};
-ghost use Rattle.task_gate.specs.Passes.{IsOutside, IsInside, IsSame, IsNew, gate_of, base_of, claims, number, got, leaving_with};
+ghost use Rattle.task_gate.specs.Passes.{IsOutside, IsInside, IsSame, AllNew, gate_of, base_of, claims, number, got, leaving_with};
 ghost use Rattle.task_gate.specs.Rule.{maker};
-ghost use Rattle.task_gate.specs.declared.passes.Pass.{Pass};
 
 use crate::gates::Gate;
 use crate::passes::Pass;
@@ -23,7 +22,7 @@ impl<S: Traced + Drop> Gate<S> {
         requires some_pass { 0 < passes }
         requires empty { S.history first ≡ [] }
         ensures count { IfOk result (λ r. vec_len r.1 ≡ passes) }
-        ensures passes { IfOk result (λ r. (k : ℕ) (p : Pass) → slice_get r.1.items k ≡ Some p → IsNew (gate_id r.0) (S.base first) k p) }
+        ensures passes { IfOk result (λ r. AllNew (gate_id r.0) (S.base first) r.1.items) }
     {
         let key = Snapshot::of(&first);
         let (gate, mut seat) = Gate::of(alloc, first, &key)?;
