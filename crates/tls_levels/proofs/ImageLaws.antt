@@ -14,7 +14,7 @@ use Rattle.tls_levels.specs.Images.{level_at, len_at, image_number, words_at, wo
 abbrev pub some_shape : VarShape
 some_shape = record { len = 0; level = None }
 
-level_at-get : (shapes : List VarShape) (var : ℕ) → var < length shapes → level_at shapes var ≡ (get_or shapes var some_shape).level
+pub level_at-get : (shapes : List VarShape) (var : ℕ) → var < length shapes → level_at shapes var ≡ (get_or shapes var some_shape).level
 level_at-get shapes var there = ap (option_and_then (λ (s : VarShape). s.level)) (slice_get-get_or shapes var some_shape there)
 
 len_at-get : (shapes : List VarShape) (var : ℕ) → var < length shapes → len_at shapes var ≡ (get_or shapes var some_shape).len

@@ -6,6 +6,7 @@ use Rattle.mpc_values.specs.declared.owners.Level.TheVariants.{Core, L1, L2, L3,
 use Rattle.mpc_values.specs.declared.owners.Owner.{Owner}
 use Rattle.mpc_values.specs.declared.owners.Owner.TheVariants.{Task, Inst}
 use Rattle.topology.specs.declared.core_numbers.CoreNumbers.{CoreNumbers}
+use Rattle.topology.specs.declared.core_numbers.TheConstants.{INSTANCE_NUMBERS}
 use Rattle.topology.specs.Instances.{instance_of}
 
 -- whose copy of a variable of this level a task on this core touches
@@ -24,7 +25,7 @@ holds_core machine cores level id = list_any (λ core. instance_of machine level
 
 -- the instances of a level that hold the core of a task, by rising number
 unfoldable pub instances_at : List CoreNumbers → List ℕ → Level → List Owner
-instances_at machine cores level = map (Inst level) (filter (holds_core machine cores level) (range_with_len 0 256))
+instances_at machine cores level = map (Inst level) (filter (holds_core machine cores level) (range_with_len 0 INSTANCE_NUMBERS))
 
 -- so many tasks as owners
 abbrev pub tasks_of : ℕ → List Owner

@@ -1,5 +1,6 @@
 ghost use Rattle.std.specs.Prelude.{◌≡◌, ℕ, ◌+◌, ◌<◌, ◌≤◌, length, All, Contains, IfOk};
 ghost use Rattle.std.specs.List.{sum_by};
+ghost use Rattle.mpc_values.specs.declared.limits.TheConstants.{MAX_CORES, MAX_STATIC_VARIABLES, MAX_STATIC_WORDS};
 
 use crate::layout::{Layout, lay_out};
 use crate::owner_list::owners_of;
@@ -45,10 +46,10 @@ impl Levels {
         cores: &[u32],
     ) -> Result<Levels, Memory>
         requires some_task { 0 < length cores.now }
-        requires few_tasks { length cores.now ≤ 256 }
-        requires few_vars { length globals.now ≤ 4096 }
+        requires few_tasks { length cores.now ≤ MAX_CORES }
+        requires few_vars { length globals.now ≤ MAX_STATIC_VARIABLES }
         requires there { All (λ core. core < length machine.now) cores.now }
-        requires few_words { sum_by (λ var. var.len) globals.now ≤ 262144 }
+        requires few_words { sum_by (λ var. var.len) globals.now ≤ MAX_STATIC_WORDS }
         requires first_words { All (λ var. length var.first ≡ var.len) globals.now }
         ensures value { IfOk result (λ levels. levels ≡ sharing_of globals.now machine.now cores.now) }
         ensures vars { IfOk result (λ levels. length levels.shapes ≡ length globals.now) }
@@ -66,11 +67,12 @@ impl Levels {
     }
 
     /// Whose copy of a variable a task touches: its own, or that of the instance of the variable's
-    /// level that holds the task's core.
+    /// level that holds the task's core. It is one of `owners`.
     pub fn resolve(&self, task: u32, var: u32) -> Owner
         requires task { task < length self.now.cores }
         requires var { var < length self.now.shapes }
-        ensures { result ≡ owner_in self.now task var }
+        ensures value { result ≡ owner_in self.now task var }
+        ensures owned { Contains (owners_in self.now) result }
     {
         match self.shapes[var as usize].level {
             None => Owner::Task(task),

@@ -1,13 +1,11 @@
 ghost use Rattle.std.specs.Prelude.{◌≡◌, ◌<◌, ◌≤◌, ◌++◌, length, All, IfOk, OnOk};
 ghost use Rattle.std.specs.List.{flat_map};
+ghost use Rattle.mpc_values.specs.declared.limits.TheConstants.{MAX_CORES};
 ghost use Rattle.tls_levels.specs.Owners.{holds_core, instances_at, tasks_of, owners_of};
 
 use mpc_values::{Level, Memory, Owner};
 use std::alloc::Global;
-use topology::Machine;
-
-/// How many numbers an instance may have: 0 to 255.
-const NUMBERS: u32 = 256;
+use topology::{INSTANCE_NUMBERS, Machine};
 
 /// The levels, from the narrowest to the widest.
 const LEVELS: [Level; 6] = [
@@ -26,7 +24,7 @@ pub(crate) fn owners_of(
     machine: &Machine,
     cores: &[u32],
 ) -> Result<Vec<Owner>, Memory>
-    requires few { length cores.now ≤ 256 }
+    requires few { length cores.now ≤ MAX_CORES }
     requires there { All (λ core. core < length machine.now) cores.now }
     ensures { IfOk result (λ list. list.items ≡ owners_of machine.now cores.now) }
 {
@@ -69,7 +67,7 @@ fn push_instances(
     requires { All (λ core. core < length machine.now) cores.now }
     ensures { OnOk result (owners.new.items ≡ owners.old.items ++ instances_at machine.now cores.now level) }
 {
-    for id in 0..NUMBERS {
+    for id in 0..INSTANCE_NUMBERS {
         if holds_core(machine, cores, level, id) {
             owners.push(Owner::Inst { level, id })?;
         }

@@ -142,6 +142,10 @@ fn variables_follow_each_other_in_an_image(rt: HostRuntime) -> Result<(), Fail> 
     for owner in levels.owners() {
         assert_eq!(rt; levels.image_len(*owner), words_of(*owner));
     }
+    for var in 0..9 {
+        let owner = levels.resolve(3, var);
+        assert_eq!(rt; levels.image_len(owner), words_of(owner));
+    }
     Ok(())
 }
 

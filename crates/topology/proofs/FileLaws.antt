@@ -13,7 +13,7 @@ use Rattle.toml.specs.View.{view, items_view, members_view}
 use Rattle.toml.specs.Parse.{parse_document}
 use Rattle.topology.specs.declared.core_numbers.CoreNumbers.{CoreNumbers}
 use Rattle.topology.specs.declared.refusals.MachineRefusal.TheVariants.{NoCores, TooManyCores}
-use Rattle.topology.specs.Instances.{numa_fits}
+use Rattle.topology.specs.Instances.{numbers_fit}
 use Rattle.topology.specs.MachineFile.{document_of, keys_of, values_of, is_level_key, byte_of, byte_in, byte_at, four_numbers, numbers_in, numbers_of_core, together, nested_machine, machine_of_tables}
 
 -- a test of each key
@@ -108,36 +108,44 @@ byte_of_fits (pos m) n e =
     rw (← same) fits
 byte_of_fits (negsuc m) n e = none_not_some e
 
-first_of_four : (a b c d : Option ℕ) (r : CoreNumbers) → four_numbers a b c d ≡ Some r → a ≡ Some r.numa
-first_of_four None b c d r e = none_not_some e
-first_of_four (Some a) None c d r e = none_not_some e
-first_of_four (Some a) (Some b) None d r e = none_not_some e
-first_of_four (Some a) (Some b) (Some c) None r e = none_not_some e
-first_of_four (Some a) (Some b) (Some c) (Some d) r e =
+-- the four numbers of a core, where all are there
+abbrev Four : Option ℕ → Option ℕ → Option ℕ → Option ℕ → CoreNumbers → Type 0
+Four a b c d r = (a ≡ Some r.numa) × (b ≡ Some r.l3) × (c ≡ Some r.l2) × (d ≡ Some r.l1)
+
+all_four : (a b c d : Option ℕ) (r : CoreNumbers) → four_numbers a b c d ≡ Some r → Four a b c d r
+all_four None b c d r e = none_not_some e
+all_four (Some a) None c d r e = none_not_some e
+all_four (Some a) (Some b) None d r e = none_not_some e
+all_four (Some a) (Some b) (Some c) None r e = none_not_some e
+all_four (Some a) (Some b) (Some c) (Some d) r e =
     let same : record { numa = a; l3 = b; l2 = c; l1 = d } ≡ r = cc in
-    ap (λ (r : CoreNumbers). Some r.numa) same
+    (ap (λ (r : CoreNumbers). Some r.numa) same, ap (λ (r : CoreNumbers). Some r.l3) same, ap (λ (r : CoreNumbers). Some r.l2) same, ap (λ (r : CoreNumbers). Some r.l1) same)
+
+at_fits : (key : List ℕ) (fields : Members) (n : ℕ) → byte_at key fields ≡ Some n → ltb n 256 ≡ true
+at_fits key fields n e =
+    let (value, there, seen) = and_then_some byte_in (get_member key fields) n e in
+    let (z, int, fits) = and_then_some byte_of (as_integer value) n seen in
+    byte_of_fits z n fits
 
 four_fits : (fields : Members) (r : CoreNumbers) (b : Bool)
     → cond b (four_numbers (byte_at (codes "numa") fields) (byte_at (codes "l3") fields) (byte_at (codes "l2") fields) (byte_at (codes "l1") fields)) None ≡ Some r
-    → numa_fits r ≡ true
+    → numbers_fit r ≡ true
 four_fits fields r false e = none_not_some e
 four_fits fields r true e =
-    let first = first_of_four _ _ _ _ r e in
-    let (value, there, seen) = and_then_some byte_in (get_member (codes "numa") fields) r.numa first in
-    let (z, int, fits) = and_then_some byte_of (as_integer value) r.numa seen in
-    byte_of_fits z r.numa fits
+    let (numa, l3, l2, l1) = all_four _ _ _ _ r e in
+    rw (at_fits (codes "numa") fields r.numa numa, at_fits (codes "l3") fields r.l3 l3, at_fits (codes "l2") fields r.l2 l2, at_fits (codes "l1") fields r.l1 l1) refl
 
-pub numbers_fit : (value : Data) (r : CoreNumbers) → numbers_of_core value ≡ Some r → numa_fits r ≡ true
-numbers_fit value r e =
+pub core_fits : (value : Data) (r : CoreNumbers) → numbers_of_core value ≡ Some r → numbers_fit r ≡ true
+core_fits value r e =
     let (fields, is, found) = and_then_some numbers_in (as_table value) r e in
     fields_fit fields found
   where
-    fields_fit : (fields : Members) → numbers_in fields ≡ Some r → numa_fits r ≡ true
+    fields_fit : (fields : Members) → numbers_in fields ≡ Some r → numbers_fit r ≡ true
     fields_fit fields found = four_fits fields r (list_all is_level_key (keys_of fields)) found
 
 -- as many cores as values, and all their numbers fit
 abbrev pub Fit : ℕ → List CoreNumbers → Type 0
-Fit n cores = (length cores ≡ n) × (list_all numa_fits cores ≡ true)
+Fit n cores = (length cores ≡ n) × (list_all numbers_fit cores ≡ true)
 
 more_fit : (v : Data) (n : CoreNumbers) (count : ℕ) (o : Option (List CoreNumbers)) (cores : List CoreNumbers)
     → numbers_of_core v ≡ Some n → ((ms : List CoreNumbers) → o ≡ Some ms → Fit count ms) → option_map (λ ms. n ∷ ms) o ≡ Some cores → Fit (suc count) cores
@@ -145,10 +153,10 @@ more_fit v n count None cores here ih rest = none_not_some rest
 more_fit v n count (Some ms) cores here ih rest =
     let same : n ∷ ms ≡ cores = cc in
     let (long, fits) = ih ms refl in
-    (ap length (sym same) ∙ ap suc long, ap (list_all numa_fits) (sym same) ∙ rw (numbers_fit v n here) fits)
+    (ap length (sym same) ∙ ap suc long, ap (list_all numbers_fit) (sym same) ∙ rw (core_fits v n here) fits)
 
 pub together_fits : (values : List Data) (cores : List CoreNumbers) → together (map numbers_of_core values) ≡ Some cores → Fit (length values) cores
-together_fits [] cores e = let same : [] ≡ cores = cc in (ap length (sym same), ap (list_all numa_fits) (sym same))
+together_fits [] cores e = let same : [] ≡ cores = cc in (ap length (sym same), ap (list_all numbers_fit) (sym same))
 together_fits (v ∷ vs) cores e =
     let (n, here, rest) = and_then_some (λ m. option_map (λ ms. m ∷ ms) (together (map numbers_of_core vs))) (numbers_of_core v) cores e in
     more_fit v n (length vs) (together (map numbers_of_core vs)) cores here (λ ms is. together_fits vs ms is) rest

@@ -5,7 +5,9 @@ use Rattle.std.specs.Str.{is_utf8}
 use Rattle.std.specs.Cmp.Lexicographic.{pointwise}
 use Rattle.toml.specs.Data.{Data, Items, no_items, item, Members, no_members, member, get_member, as_integer, as_array, as_table}
 use Rattle.toml.specs.Parse.{parse_document}
+use Rattle.mpc_values.specs.declared.limits.TheConstants.{MAX_CORES}
 use Rattle.topology.specs.declared.core_numbers.CoreNumbers.{CoreNumbers}
+use Rattle.topology.specs.declared.core_numbers.TheConstants.{INSTANCE_NUMBERS}
 use Rattle.topology.specs.declared.refusals.MachineRefusal.{MachineRefusal}
 use Rattle.topology.specs.declared.refusals.MachineRefusal.TheVariants.{NotToml, BadField, NoCores, TooManyCores, NotNested}
 
@@ -53,7 +55,7 @@ is_level_key key = ((same_text key (codes "numa") || same_text key (codes "l3"))
 
 -- an integer of 0 to 255
 abbrev pub byte_of : ℤ → Option ℕ
-byte_of (pos n) = if nat_lt n 256 then Some n else None
+byte_of (pos n) = if nat_lt n INSTANCE_NUMBERS then Some n else None
 byte_of (negsuc n) = None
 
 -- the value, where it is an integer of 0 to 255
@@ -104,7 +106,7 @@ abbrev pub machine_of_tables : Option (List Data) → Result (List CoreNumbers) 
 machine_of_tables None = Err BadField
 machine_of_tables (Some tables) =
     if length tables == 0 then Err NoCores
-    else if nat_lt 256 (length tables) then Err TooManyCores
+    else if nat_lt MAX_CORES (length tables) then Err TooManyCores
     else nested_machine (together (map numbers_of_core tables))
 
 -- the machine that a document tells, or the refusal of the first rule that it breaks

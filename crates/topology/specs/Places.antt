@@ -3,6 +3,7 @@ use Rattle.std.specs.Prelude.{ℕ, Bool, ◌%◌, ◌/◌, ◌==◌, ◌&&◌, L
 use Rattle.std.specs.List.{list_all, range_with_len}
 use Rattle.mpc_values.specs.declared.owners.Level.TheVariants.{Numa}
 use Rattle.topology.specs.declared.core_numbers.CoreNumbers.{CoreNumbers}
+use Rattle.topology.specs.declared.core_numbers.TheConstants.{INSTANCE_NUMBERS}
 use Rattle.topology.specs.declared.refusals.BadPlace.{BadPlace}
 use Rattle.topology.specs.declared.placements.Placement.{Placement}
 use Rattle.topology.specs.declared.placements.Placement.TheVariants.{Compact, Scatter, Listed}
@@ -30,7 +31,7 @@ has_core machine id = has_item (cores_in machine id)
 
 -- the NUMA instances that have a core, by rising number
 unfoldable pub numa_instances : List CoreNumbers → List ℕ
-numa_instances machine = filter (has_core machine) (range_with_len 0 256)
+numa_instances machine = filter (has_core machine) (range_with_len 0 INSTANCE_NUMBERS)
 
 -- one group after another, and in each the next of its cores
 abbrev pub turn_in : List (List ℕ) → ℕ → ℕ

@@ -1,3 +1,6 @@
+/// The instances of a level have numbers below this one: each is a byte of the machine file.
+pub const INSTANCE_NUMBERS: u32 = 256;
+
 /// The numbers of the instances that a core is in, level by level.
 #[derive(Clone, Copy, Debug, PartialEq, Eq)]
 pub struct CoreNumbers {

@@ -9,7 +9,7 @@ mod refusals;
 #[cfg(test)]
 mod tests;
 
-pub use core_numbers::CoreNumbers;
+pub use core_numbers::{CoreNumbers, INSTANCE_NUMBERS};
 pub use machine_file::read_machine;
 pub use machines::{Machine, flat};
 pub use placements::{Placement, place};

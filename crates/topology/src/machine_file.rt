@@ -2,18 +2,17 @@ ghost use Rattle.std.specs.Prelude.{◌≡◌, ◌<◌, ◌≤◌, length, IfOk,
 ghost use Rattle.std.specs.List.{list_all};
 ghost use Rattle.toml.specs.Data.{get_member};
 ghost use Rattle.toml.specs.View.{view, items_view, table_view};
-ghost use Rattle.topology.specs.Instances.{numa_fits};
+ghost use Rattle.mpc_values.specs.declared.limits.TheConstants.{MAX_CORES};
+ghost use Rattle.topology.specs.Instances.{numbers_fit};
 ghost use Rattle.topology.specs.MachineFile.{document_of, is_core_key, is_level_key, keys_of, values_of, is_table, tables_of, core_values, core_tables, byte_of, byte_in, byte_at, four_numbers, numbers_in, numbers_of_core, together, keeps_apart, is_nested, nested_machine, machine_of_tables, machine_of};
 
 use crate::core_numbers::CoreNumbers;
 use crate::machines::Machine;
 use crate::refusals::MachineRefusal;
 use mpc_values::Memory;
+use mpc_values::limits::MAX_CORES;
 use std::alloc::Global;
 use toml::{Table, Value};
-
-/// The most cores that a machine may have.
-const MOST_CORES: usize = 256;
 
 /// Reads a machine file: TOML with one `[[core]]` table for each core, each with the integer keys
 /// `numa`, `l3`, `l2` and `l1` of 0 to 255 and no other key. The first broken rule refuses it:
@@ -116,7 +115,7 @@ fn machine_of_tables(
     if tables.is_empty() {
         return Ok(Err(MachineRefusal::NoCores));
     }
-    if tables.len() > MOST_CORES {
+    if tables.len() > MAX_CORES {
         return Ok(Err(MachineRefusal::TooManyCores));
     }
     match all_numbers(alloc, tables)? {
@@ -127,8 +126,8 @@ fn machine_of_tables(
 
 fn nested_machine(cores: Vec<CoreNumbers>) -> Result<Machine, MachineRefusal>
     requires some { 0 < length cores.items }
-    requires most { length cores.items ≤ 256 }
-    requires fits { IsTrue (list_all numa_fits cores.items) }
+    requires most { length cores.items ≤ MAX_CORES }
+    requires fits { IsTrue (list_all numbers_fit cores.items) }
     ensures { result ≡ nested_machine (Some cores.items) }
 {
     if is_nested(cores.as_slice()) {

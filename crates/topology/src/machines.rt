@@ -1,6 +1,8 @@
 ghost use Rattle.std.specs.Prelude.{◌≡◌, ◌<◌, ◌≤◌, length, IfOk, IsTrue};
 ghost use Rattle.std.specs.List.{list_all};
-ghost use Rattle.topology.specs.Instances.{instance_of, numa_fits, flat_machine};
+ghost use Rattle.mpc_values.specs.declared.limits.TheConstants.{MAX_CORES};
+ghost use Rattle.topology.specs.Instances.{instance_of, numbers_fit, flat_machine};
+ghost use Rattle.topology.specs.declared.core_numbers.TheConstants.{INSTANCE_NUMBERS};
 
 use crate::core_numbers::CoreNumbers;
 use mpc_values::{Level, Memory};
@@ -8,7 +10,7 @@ use std::alloc::Global;
 use std::marker::Model;
 
 /// The cores of a machine, numbered from 0: at least one and at most 256. Contracts see the list of
-/// their numbers.
+/// their numbers, each of 0 to 255.
 #[derive(Debug, Drop)]
 pub struct Machine {
     cores: Vec<CoreNumbers>,
@@ -18,20 +20,21 @@ impl Model for Machine {
     ghost use Rattle.std.specs.Prelude.{List, length, ◌<◌, ◌≤◌, IsTrue};
     ghost use Rattle.std.specs.List.{list_all};
     ghost use Rattle.topology.specs.declared.core_numbers.CoreNumbers.{CoreNumbers};
-    ghost use Rattle.topology.specs.Instances.{numa_fits};
+    ghost use Rattle.mpc_values.specs.declared.limits.TheConstants.{MAX_CORES};
+    ghost use Rattle.topology.specs.Instances.{numbers_fit};
 
     ghost Value = { List CoreNumbers };
 
     ghost view = { λ machine. machine.cores.items };
 
-    ghost invariant = { λ machine. (0 < length machine.cores.items) × (length machine.cores.items ≤ 256) × IsTrue (list_all numa_fits machine.cores.items) };
+    ghost invariant = { λ machine. (0 < length machine.cores.items) × (length machine.cores.items ≤ MAX_CORES) × IsTrue (list_all numbers_fit machine.cores.items) };
 }
 
 impl Machine {
     pub(crate) fn of(cores: Vec<CoreNumbers>) -> Machine
         requires some { 0 < length cores.items }
-        requires most { length cores.items ≤ 256 }
-        requires fits { IsTrue (list_all numa_fits cores.items) }
+        requires most { length cores.items ≤ MAX_CORES }
+        requires fits { IsTrue (list_all numbers_fit cores.items) }
         ensures { result ≡ cores.items }
     {
         Machine { cores }
@@ -41,8 +44,8 @@ impl Machine {
     pub fn cores(&self) -> u32
         ensures count { result ≡ length self.now }
         ensures some { 0 < result }
-        ensures most { result ≤ 256 }
-        ensures fits { IsTrue (list_all numa_fits self.now) }
+        ensures most { result ≤ MAX_CORES }
+        ensures fits { IsTrue (list_all numbers_fit self.now) }
     {
         self.cores.len() as u32
     }
@@ -67,7 +70,8 @@ impl Machine {
     /// for `Core`, and 0 for `Node`.
     pub fn instance(&self, level: Level, core: u32) -> u32
         requires { core < length self.now }
-        ensures { result ≡ instance_of self.now level core }
+        ensures value { result ≡ instance_of self.now level core }
+        ensures small { result < INSTANCE_NUMBERS }
     {
         let numbers = self.cores[core as usize];
         match level {
@@ -85,7 +89,7 @@ impl Machine {
 /// and a first cache for each.
 pub fn flat(alloc: Global, cores: u32) -> Result<Machine, Memory>
     requires some { 0 < cores }
-    requires most { cores ≤ 256 }
+    requires most { cores ≤ MAX_CORES }
     ensures { IfOk result (λ machine. machine ≡ flat_machine cores) }
 {
     let mut list = Vec::new(alloc);

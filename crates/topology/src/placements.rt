@@ -2,13 +2,11 @@ ghost use Rattle.std.specs.Prelude.{◌≡◌, ◌%◌, All, IfOk, map, nat_lt, 
 ghost use Rattle.std.specs.List.{range_with_len, list_all};
 ghost use Rattle.topology.specs.Places.{placed, listed_cores, scatter_core, turn_in, has_item, numa_instances, cores_in};
 
+use crate::core_numbers::INSTANCE_NUMBERS;
 use crate::machines::Machine;
 use crate::refusals::BadPlace;
 use mpc_values::{Cores, Level, Memory};
 use std::alloc::Global;
-
-/// How many numbers an instance may have: 0 to 255.
-const NUMBERS: u32 = 256;
 
 /// The rule by which tasks are put on cores.
 #[derive(Debug, Drop)]
@@ -93,7 +91,7 @@ fn groups(alloc: Global, machine: &Machine) -> Result<Vec<Cores>, Memory>
     ensures each { IfOk result (λ list. IsTrue (list_all has_item list.items)) }
 {
     let mut list = Vec::with_capacity(alloc, machine.cores() as usize)?;
-    for id in 0..NUMBERS {
+    for id in 0..INSTANCE_NUMBERS {
         let cores = members(alloc, machine, id)?;
         if !cores.is_empty() {
             list.push(Cores::of(cores))?;

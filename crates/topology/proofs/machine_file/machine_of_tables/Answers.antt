@@ -8,8 +8,8 @@ use Rattle.topology.proofs.machine_file.machine_of_tables.Goals as goal
 there : (n : ℕ) (b : Bool) → b ≡ eqb n 0 → b ≡ false → 0 < n
 there n b is fails = grind (arith, nat_tests)
 
-pub returns-then-tables-gt-MOST_CORES : goal.returns-then-tables-gt-MOST_CORES
-returns-then-tables-gt-MOST_CORES c = sym (too_many c.args.tables.now (omega arith))
+pub returns-then-tables-gt-MAX_CORES : goal.returns-then-tables-gt-MAX_CORES
+returns-then-tables-gt-MAX_CORES c = sym (too_many c.args.tables.now (omega arith))
 
 pub nested_machine-requires-clause-some : goal.nested_machine-requires-clause-some
 nested_machine-requires-clause-some c =

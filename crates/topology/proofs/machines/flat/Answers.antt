@@ -13,4 +13,4 @@ of-requires-clause-most c =
     omega (arith, ap length c.loop-core.invariant, length-map-range_with_len flat_core 0 c.loop-core.core)
 
 pub of-requires-clause-fits : goal.of-requires-clause-fits
-of-requires-clause-fits c = rw c.loop-core.invariant (list_all-flat 0 c.loop-core.core)
+of-requires-clause-fits c = rw c.loop-core.invariant (list_all-flat 0 c.loop-core.core (omega arith))
