@@ -2,7 +2,7 @@ ghost use Rattle.std.specs.Prelude.{◌≡◌, ◌≢◌, ◌++◌, IfOk, OnOk, 
 ghost use Rattle.journal.specs.Report.{report_of, rank_part, rank_line, state_text, closing, ending_line};
 
 use mpc_base::{Call, End, Memory, RankEnd, RankState};
-use run_model::RunRecord;
+use serial_model::RunRecord;
 use std::alloc::{AllocError, Global};
 
 fn state_text(alloc: Global, state: &RankState) -> Result<String, AllocError>

@@ -4,10 +4,8 @@ ghost use Rattle.std.specs.Prelude.{◌≡◌, ◌≢◌, IfOk};
 use crate::report;
 use c_tree::Globals;
 use c_tree::program::{Constructs, Program};
-use mpc_base::{
-    End, Entries, Fault, Journal, Memory, RankEnd, RankEnds, RankState, Text,
-};
-use run_model::{RunRecord, Setup};
+use mpc_base::{End, Entries, Fault, Journal, Memory, RankEnd, RankEnds, RankState, Text};
+use serial_model::{RunRecord, Setup};
 use std::alloc::Global;
 use std::test::*;
 
@@ -40,11 +38,7 @@ fn record(alloc: Global, ranks: &[(RankState, &[u8])], end: End) -> Result<RunRe
     })
 }
 
-fn report_of_run(
-    alloc: Global,
-    ranks: &[(RankState, &[u8])],
-    end: End,
-) -> Result<Vec<u8>, Memory>
+fn report_of_run(alloc: Global, ranks: &[(RankState, &[u8])], end: End) -> Result<Vec<u8>, Memory>
     requires going { end ≢ End.Going }
     requires memory { end ≢ End.NoMemory }
 {
@@ -93,7 +87,11 @@ fn outputs_are_closed_by_a_line_feed(rt: HostRuntime) -> Result<(), Fail> {
         ),
     ];
     for (code, output, want) in rows.iter() {
-        let text = report_of_run(rt.alloc(), &[(RankState::Exit(*code), *output)], End::Finished)?;
+        let text = report_of_run(
+            rt.alloc(),
+            &[(RankState::Exit(*code), *output)],
+            End::Finished,
+        )?;
         assert_eq!(rt; text.as_slice(), *want);
     }
     Ok(())
@@ -142,7 +140,11 @@ fn abort_and_want_of_a_thread_end_the_report(rt: HostRuntime) -> Result<(), Fail
         code: -9,
         line: 12,
     };
-    let text = report_of_run(rt.alloc(), &[(RankState::Stopped, b""), (aborts, b"")], abort)?;
+    let text = report_of_run(
+        rt.alloc(),
+        &[(RankState::Stopped, b""), (aborts, b"")],
+        abort,
+    )?;
     let want =
         b"== rank 0: stopped, 0 bytes ==\n== rank 1: aborted -9 at line 12, 0 bytes ==\n== run: aborted by rank 1 ==\n";
     assert_eq!(rt; text.as_slice(), want.as_slice());

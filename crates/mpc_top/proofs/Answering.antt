@@ -3,7 +3,7 @@ use Rattle.std.proofs.Common.{◌≡◌, ◌≢◌, ◌≤◌, ◌↔◌, ◌⊎
 use Rattle.mpc_base.specs.Causes.{Rose}
 use Rattle.mpc_base.specs.Told.{Store, content_of, Took, TookPrefix}
 use Rattle.c_tree.specs.ProgramOf.{program_of}
-use Rattle.run_model.specs.declared.records.RunRecord.{RunRecord}
+use Rattle.serial_model.specs.declared.records.RunRecord.{RunRecord}
 use Rattle.mpc_top.specs.declared.command.Mode.{Mode}
 use Rattle.mpc_top.specs.declared.command.Mode.TheVariants.{Check, Serial}
 use Rattle.mpc_top.specs.declared.sources.SourceRefusal.{SourceRefusal}

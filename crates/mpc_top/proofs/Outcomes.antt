@@ -4,8 +4,8 @@ use Rattle.mpc_base.specs.Told.{Store, content_of}
 use Rattle.c_tree.specs.Programs.{Program}
 use Rattle.c_tree.specs.ProgramOf.{program_of}
 use Rattle.journal.specs.Report.{report_of}
-use Rattle.run_model.specs.declared.records.RunRecord.{RunRecord}
-use Rattle.run_model.specs.Run.{status_of}
+use Rattle.serial_model.specs.declared.records.RunRecord.{RunRecord}
+use Rattle.serial_model.specs.Run.{status_of}
 use Rattle.serial_run.proofs.OneRun.{one_run}
 use Rattle.mpc_top.specs.declared.command.Mode.{Mode}
 use Rattle.mpc_top.specs.declared.command.Mode.TheVariants.{Check, Serial}

@@ -16,15 +16,15 @@ use Rattle.mpc_base.specs.declared.journals.End.TheVariants as end
 use Rattle.c_tree.specs.Asking.{Next, Asks, Over, Misfit}
 use Rattle.c_tree.specs.Next.{next_of}
 use Rattle.c_tree.specs.ProgramOf.{program_of}
-use Rattle.run_model.specs.declared.records.Setup.{Setup}
-use Rattle.run_model.specs.declared.records.RunRecord.{RunRecord}
+use Rattle.serial_model.specs.declared.records.Setup.{Setup}
+use Rattle.serial_model.specs.declared.records.RunRecord.{RunRecord}
 use Rattle.mpc_base.specs.declared.journals.RankEnd.{RankEnd}
 use Rattle.mpc_base.specs.declared.journals.RankState.{RankState}
 use Rattle.mpc_base.specs.declared.journals.RankState.TheVariants as rank
-use Rattle.run_model.specs.declared.lasts.Last.{Last}
-use Rattle.run_model.specs.World.{World, TaskState}
-use Rattle.run_model.specs.Go.{Act, Does, Fails, Unbuilt, act, Stays, acted, fails, visited, count_of, calls_limit, entry_of, answers_of, has_finished, has_ended, go, go_next, go_task}
-use Rattle.run_model.specs.Run.{Ran, run_from, ran_step, run, at_start, order_of, world_of, end_of, ending, rank_state, rank_ends_from, RecordsRun, status_of, is_zero_exit}
+use Rattle.serial_model.specs.declared.lasts.Last.{Last}
+use Rattle.serial_model.specs.World.{World, TaskState}
+use Rattle.serial_model.specs.Go.{Act, Does, Fails, Unbuilt, act, Stays, acted, fails, visited, count_of, calls_limit, entry_of, answers_of, has_finished, has_ended, go, go_next, go_task}
+use Rattle.serial_model.specs.Run.{Ran, run_from, ran_step, run, at_start, order_of, world_of, end_of, ending, rank_state, rank_ends_from, RecordsRun, status_of, is_zero_exit}
 use Rattle.mpc_top.specs.RunStatuses.{IsBadExit, FinishedWell, FinishedBadly, IsFault, EndsInFault, made_status, IsStatusOf}
 
 -- ---- a run's last entry is a fault exactly where a fault ended it

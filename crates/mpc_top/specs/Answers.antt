@@ -7,8 +7,8 @@ use Rattle.c_tree.specs.Programs.{Program}
 use Rattle.c_tree.specs.ProgramOf.{program_of}
 use Rattle.c_compile.specs.Plain.{is_plain}
 use Rattle.journal.specs.Report.{report_of}
-use Rattle.run_model.specs.declared.records.RunRecord.{RunRecord}
-use Rattle.run_model.specs.Run.{RecordsRun}
+use Rattle.serial_model.specs.declared.records.RunRecord.{RunRecord}
+use Rattle.serial_model.specs.Run.{RecordsRun}
 use Rattle.mpc_top.specs.declared.command.Mode.{Mode}
 use Rattle.mpc_top.specs.declared.command.Mode.TheVariants.{Check, Serial}
 use Rattle.mpc_top.specs.declared.sources.SourceRefusal.{SourceRefusal}

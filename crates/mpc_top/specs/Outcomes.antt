@@ -1,7 +1,7 @@
 -- What a command writes, keeps and answers is a function of its words and of the files that the store tells.
 use Rattle.std.specs.Prelude.{◌≡◌, ℕ, List, Option, Some, None}
 use Rattle.mpc_base.specs.Told.{Store}
-use Rattle.run_model.specs.declared.records.RunRecord.{RunRecord}
+use Rattle.serial_model.specs.declared.records.RunRecord.{RunRecord}
 use Rattle.serial_run.specs.OneRun.{SameRun}
 use Rattle.mpc_top.specs.declared.command.Mode.{Mode}
 use Rattle.mpc_top.specs.RunStatuses.{made_status}

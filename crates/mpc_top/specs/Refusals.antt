@@ -2,7 +2,7 @@
 use Rattle.std.specs.Prelude.{◌≡◌, ◌≢◌, ℕ, List, [], Option, Some, None, ◌⊎◌}
 use Rattle.mpc_base.specs.Causes.{Rose}
 use Rattle.mpc_base.specs.Told.{Store, Took, TookPrefix}
-use Rattle.run_model.specs.declared.records.RunRecord.{RunRecord}
+use Rattle.serial_model.specs.declared.records.RunRecord.{RunRecord}
 use Rattle.c_tree.specs.Programs.{Program}
 use Rattle.c_tree.specs.ProgramOf.{program_of}
 use Rattle.journal.specs.Report.{report_of}

@@ -5,10 +5,10 @@ use Rattle.mpc_base.specs.declared.journals.Out.{Out}
 use Rattle.mpc_base.specs.declared.journals.Out.TheVariants.{Waits, Did, Broke}
 use Rattle.mpc_base.specs.declared.journals.Entry.{Entry}
 use Rattle.mpc_base.specs.declared.journals.End.TheVariants as end
-use Rattle.run_model.specs.declared.records.RunRecord.{RunRecord}
+use Rattle.serial_model.specs.declared.records.RunRecord.{RunRecord}
 use Rattle.mpc_base.specs.declared.journals.RankState.{RankState}
 use Rattle.mpc_base.specs.declared.journals.RankState.TheVariants as rank
-use Rattle.run_model.specs.Run.{status_of}
+use Rattle.serial_model.specs.Run.{status_of}
 
 -- main ended with another exit code than 0
 abbrev pub IsBadExit : RankState → Type 0

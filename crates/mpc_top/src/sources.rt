@@ -11,8 +11,8 @@ use c_parse::{ParseRefusal, parse};
 use c_tree::program::Program;
 use c_tree::syntax::Tree;
 use c_types::{TypeRefusal, check};
-use mpc_base::limits::MAX_SOURCE_BYTES;
 use mpc_base::Memory;
+use mpc_base::limits::MAX_SOURCE_BYTES;
 use std::alloc::{AllocError, Global};
 
 /// Why a source is refused.

@@ -1,10 +1,10 @@
 //! The exit status of a run.
 ghost use Rattle.std.specs.Prelude.{◌≡◌};
 ghost use Rattle.std.specs.List.{list_all};
-ghost use Rattle.run_model.specs.Run as runs;
+ghost use Rattle.serial_model.specs.Run as runs;
 
 use mpc_base::{End, RankEnd, RankState};
-use run_model::RunRecord;
+use serial_model::RunRecord;
 
 fn is_zero_exit(state: &RankState) -> bool
     ensures { result ≡ runs.is_zero_exit state.now }

@@ -24,7 +24,7 @@ use c_tree::program::Program;
 use journal::report;
 use mpc_base::limits::MAX_SOURCE_BYTES;
 use mpc_base::{Files, Memory, ReadAnswer, Sink};
-use run_model::{RunRecord, Setup};
+use serial_model::{RunRecord, Setup};
 use serial_run::run_serial;
 use std::alloc::Global;
 

@@ -4,9 +4,9 @@ use Rattle.std.proofs.lemmas.Option.{slice_get_cases}
 use Rattle.std.proofs.lemmas.List.{length-set}
 use Rattle.mpc_values.specs.declared.values.Obj.TheVariants.{Glob, Dyn}
 use Rattle.mpc_values.specs.declared.owners.Owner.TheVariants.{Task}
-use Rattle.memory_model.specs.Memory.{Object, object_of, with_object, without}
-use Rattle.memory_model.specs.Access.{Objects, length_of}
-use Rattle.memory_model.proofs.Memories.{remove-absent}
+use Rattle.serial_memory.specs.Memory.{Object, object_of, with_object, without}
+use Rattle.serial_memory.specs.Access.{Objects, length_of}
+use Rattle.serial_memory.proofs.Memories.{remove-absent}
 use Rattle.node_core.specs.Slots.{joined, slot_at}
 use Rattle.node_core.specs.Placed.{memory_of, held_words}
 use Rattle.node_core.proofs.Placed.{positive, variable_at, dyn_at, variable_set, made_set, made_ended, made_more, held-set, held-append}

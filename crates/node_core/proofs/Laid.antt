@@ -4,8 +4,8 @@ use Rattle.std.specs.Ordering.{nat_cmp, eq_by_cmp}
 use Rattle.std.specs.Cmp.Lexicographic.{slice_cmp}
 use Rattle.std.proofs.lemmas.Cmp.{nat_list_cmp_total}
 use Rattle.std.specs.FinMap as map
-use Rattle.memory_model.specs.Memory.{Memory, Object}
-use Rattle.memory_model.proofs.Memories.{same_key, alike, get-insert_same, get-insert_other, insert-insert_other}
+use Rattle.serial_memory.specs.Memory.{Memory, Object}
+use Rattle.serial_memory.proofs.Memories.{same_key, alike, get-insert_same, get-insert_other, insert-insert_other}
 use Rattle.node_core.specs.Placed.{laid, laid_from}
 
 -- two memories that have the same objects are the same

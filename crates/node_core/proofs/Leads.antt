@@ -16,16 +16,16 @@ use Rattle.mpc_values.specs.CallTable.{call_number}
 use Rattle.c_tree.specs.Asking.{Asks}
 use Rattle.c_tree.specs.Next.{next_of}
 use Rattle.c_tree.specs.ProgramOf.{program_of}
-use Rattle.memory_model.specs.Memory.{Memory}
-use Rattle.memory_model.specs.Access.{Access, Answers, Breaks}
-use Rattle.run_model.specs.declared.records.Setup.{Setup}
-use Rattle.run_model.specs.declared.lasts.Last.{Last}
-use Rattle.run_model.specs.World.{World, TaskState}
-use Rattle.run_model.specs.Go.{Act, Does, Fails, Unbuilt, act, accessed, print, output_limit, calls_limit, count_of, Step, Stays, Makes, acted, fails, visited, go, has_ended, has_finished, answers_of, answers_at}
-use Rattle.run_model.specs.Run.{run, order_of, world_of, end_of}
-use Rattle.run_model.specs.Bounds.{Bounded}
-use Rattle.run_model.proofs.Bounds.{bounded}
-use Rattle.run_model.proofs.Runs.{run-start, world_of-push, entries-push}
+use Rattle.serial_memory.specs.Memory.{Memory}
+use Rattle.serial_memory.specs.Access.{Access, Answers, Breaks}
+use Rattle.serial_model.specs.declared.records.Setup.{Setup}
+use Rattle.serial_model.specs.declared.lasts.Last.{Last}
+use Rattle.serial_model.specs.World.{World, TaskState}
+use Rattle.serial_model.specs.Go.{Act, Does, Fails, Unbuilt, act, accessed, print, output_limit, calls_limit, count_of, Step, Stays, Makes, acted, fails, visited, go, has_ended, has_finished, answers_of, answers_at}
+use Rattle.serial_model.specs.Run.{run, order_of, world_of, end_of}
+use Rattle.serial_model.specs.Bounds.{Bounded}
+use Rattle.serial_model.proofs.Bounds.{bounded}
+use Rattle.serial_model.proofs.Runs.{run-start, world_of-push, entries-push}
 use Rattle.node_core.specs.declared.node.Reply.{Reply}
 use Rattle.node_core.specs.declared.node.Reply.TheVariants.{Did as DidReply, Stop}
 use Rattle.node_core.specs.Visits.{made, reply_of, reply_to}

@@ -7,9 +7,9 @@ use Rattle.std.specs.FinMap as finite
 use Rattle.mpc_values.specs.declared.owners.StaticVar.{StaticVar}
 use Rattle.mpc_values.specs.declared.values.Obj.TheVariants.{Glob, Dyn}
 use Rattle.mpc_values.specs.declared.owners.Owner.TheVariants.{Task}
-use Rattle.memory_model.specs.Memory.{Memory, Object, key_of, object_of, with_object, without}
-use Rattle.memory_model.specs.Access.{length_of, live_from, live_words}
-use Rattle.run_model.specs.World.{with_variables, first_memory}
+use Rattle.serial_memory.specs.Memory.{Memory, Object, key_of, object_of, with_object, without}
+use Rattle.serial_memory.specs.Access.{length_of, live_from, live_words}
+use Rattle.serial_model.specs.World.{with_variables, first_memory}
 use Rattle.node_core.specs.Slots.{first_object, joined, slot_at}
 use Rattle.node_core.specs.Placed.{laid_from, variable_key, made_key, memory_of, held_words}
 use Rattle.node_core.proofs.Laid.{there, laid_from-append, laid_from-other, laid_from-under, laid_from-here, laid_from-insert, laid_from-remove}

@@ -3,9 +3,9 @@ use Rattle.std.proofs.Common.{◌≡◌, ◌≢◌, List, [], ◌∷◌, refl, a
 use Rattle.mpc_base.specs.declared.journals.Entry.{Entry}
 use Rattle.mpc_base.specs.declared.journals.End.{End}
 use Rattle.mpc_base.specs.declared.journals.End.TheVariants.{Going}
-use Rattle.run_model.specs.declared.records.Setup.{Setup}
+use Rattle.serial_model.specs.declared.records.Setup.{Setup}
 use Rattle.mpc_base.specs.declared.journals.RankEnd.{RankEnd}
-use Rattle.run_model.specs.Run.{RecordsRun, run, order_of, ending, rank_ends, rank_state, world_of}
+use Rattle.serial_model.specs.Run.{RecordsRun, run, order_of, ending, rank_ends, rank_state, world_of}
 use Rattle.node_core.specs.declared.state.State.{State}
 use Rattle.node_core.specs.IsRun.{IsRun}
 

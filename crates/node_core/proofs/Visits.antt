@@ -9,12 +9,12 @@ use Rattle.mpc_values.specs.CallTable.{call_number}
 use Rattle.c_tree.specs.Asking.{Asks}
 use Rattle.c_tree.specs.Next.{next_of}
 use Rattle.c_tree.specs.ProgramOf.{program_of}
-use Rattle.run_model.specs.declared.records.Setup.{Setup}
-use Rattle.run_model.specs.World.{World, TaskState, start}
-use Rattle.run_model.specs.Go.{Stays, Makes, go, has_ended, visited, answers_of, calls_limit, entry_of}
-use Rattle.run_model.specs.Run.{world_of, run, order_of}
-use Rattle.run_model.proofs.Bounds.{bounded}
-use Rattle.run_model.proofs.Runs.{run-start, world_of-push, entries-push}
+use Rattle.serial_model.specs.declared.records.Setup.{Setup}
+use Rattle.serial_model.specs.World.{World, TaskState, start}
+use Rattle.serial_model.specs.Go.{Stays, Makes, go, has_ended, visited, answers_of, calls_limit, entry_of}
+use Rattle.serial_model.specs.Run.{world_of, run, order_of}
+use Rattle.serial_model.proofs.Bounds.{bounded}
+use Rattle.serial_model.proofs.Runs.{run-start, world_of-push, entries-push}
 use Rattle.node_core.specs.declared.state.State.{State}
 use Rattle.node_core.specs.Worlds.{world_seen, answers_after, state_of, SameState}
 use Rattle.node_core.specs.Visits.{made, reply_of, reply_to}

@@ -4,10 +4,10 @@ use Rattle.std.specs.Coded.{Coded, code_by, coded×, coded_ℕ, coded_list}
 use Rattle.std.specs.FinMap as map
 use Rattle.mpc_values.specs.declared.values.Word.{Word}
 use Rattle.mpc_values.specs.contracts.values.Word as word
-use Rattle.memory_model.specs.declared.kinds.Kind.{Kind}
-use Rattle.memory_model.specs.contracts.kinds.Kind as kind
-use Rattle.memory_model.specs.Memory.{Memory, Object}
-use Rattle.memory_model.specs.Access.{Objects}
+use Rattle.serial_memory.specs.declared.kinds.Kind.{Kind}
+use Rattle.serial_memory.specs.contracts.kinds.Kind as kind
+use Rattle.serial_memory.specs.Memory.{Memory, Object}
+use Rattle.serial_memory.specs.Access.{Objects}
 
 abbrev pub object_code : Coded Object
 object_code =

@@ -1,7 +1,7 @@
 -- What a node is to those who call it.
 use Rattle.std.specs.Prelude.{List}
 use Rattle.mpc_base.specs.declared.journals.Entry.{Entry}
-use Rattle.run_model.specs.declared.records.Setup.{Setup}
+use Rattle.serial_model.specs.declared.records.Setup.{Setup}
 
 -- its setup, and the entries of the run so far
 pub record Held : Type 0 where

@@ -3,8 +3,8 @@ use Rattle.std.specs.Prelude.{List, refl}
 use Rattle.std.specs.Coded.{Coded, code_by, coded×, coded_list}
 use Rattle.mpc_base.specs.declared.journals.Entry.{Entry}
 use Rattle.mpc_base.specs.contracts.journals.Entry as entry
-use Rattle.run_model.specs.declared.records.Setup.{Setup}
-use Rattle.run_model.specs.contracts.records.Setup as setup
+use Rattle.serial_model.specs.declared.records.Setup.{Setup}
+use Rattle.serial_model.specs.contracts.records.Setup as setup
 use Rattle.node_core.specs.Held.{Held}
 
 abbrev pub held_code : Coded Held

@@ -1,8 +1,8 @@
 -- When a node's state and entries are those of a run.
 use Rattle.std.specs.Prelude.{◌≡◌, List}
 use Rattle.mpc_base.specs.declared.journals.Entry.{Entry}
-use Rattle.run_model.specs.declared.records.Setup.{Setup}
-use Rattle.run_model.specs.Run.{run, order_of, world_of}
+use Rattle.serial_model.specs.declared.records.Setup.{Setup}
+use Rattle.serial_model.specs.Run.{run, order_of, world_of}
 use Rattle.node_core.specs.declared.state.State.{State}
 use Rattle.node_core.specs.Worlds.{world_seen}
 

@@ -4,8 +4,8 @@ use Rattle.std.specs.Prelude.{ℕ, ◌+◌, List, [], ◌∷◌, Option, Some, N
 use Rattle.std.specs.FinMap as map
 use Rattle.mpc_values.specs.declared.values.Obj.TheVariants.{Glob, Dyn}
 use Rattle.mpc_values.specs.declared.owners.Owner.TheVariants.{Task}
-use Rattle.memory_model.specs.Memory.{Memory, Object, key_of}
-use Rattle.memory_model.specs.Access.{length_of}
+use Rattle.serial_memory.specs.Memory.{Memory, Object, key_of}
+use Rattle.serial_memory.specs.Access.{length_of}
 
 abbrev pub laid : Option Object → List ℕ → Memory → Memory
 laid None key m = m

@@ -1,6 +1,6 @@
 -- What the places of a task stand for.
 use Rattle.std.specs.Prelude.{◌≡◌, length}
-use Rattle.memory_model.specs.Access.{Objects}
+use Rattle.serial_memory.specs.Access.{Objects}
 use Rattle.node_core.specs.Placed.{memory_of, held_words}
 use Rattle.node_core.specs.declared.places.Places.TheInside.{Inside}
 

@@ -3,9 +3,9 @@ use Rattle.std.specs.Prelude.{ℕ, ℤ, List, Result, Ok, Err, Option}
 use Rattle.mpc_values.specs.declared.owners.Owner.TheVariants.{Task}
 use Rattle.mpc_values.specs.declared.answers.Answer.{Answer}
 use Rattle.mpc_values.specs.declared.faults.Fault.{Fault}
-use Rattle.memory_model.specs.Access.{Range, Places, NoPlaces, Objects, Access, Answers, Breaks}
-use Rattle.run_model.specs.World.{TaskState}
-use Rattle.run_model.specs.Go.{Act, Does, Fails}
+use Rattle.serial_memory.specs.Access.{Range, Places, NoPlaces, Objects, Access, Answers, Breaks}
+use Rattle.serial_model.specs.World.{TaskState}
+use Rattle.serial_model.specs.Go.{Act, Does, Fails}
 use Rattle.node_core.specs.declared.ranges.Span.{Span}
 
 -- the range that was found

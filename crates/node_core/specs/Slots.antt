@@ -1,8 +1,8 @@
 -- The objects of a task by their numbers.
 use Rattle.std.specs.Prelude.{ℕ, ◌-◌, ◌==◌, if◌then◌else◌, List, slice_get, Option, Some, None}
 use Rattle.mpc_values.specs.declared.owners.StaticVar.{StaticVar}
-use Rattle.memory_model.specs.declared.kinds.Kind.TheVariants.{Static}
-use Rattle.memory_model.specs.Memory.{Object}
+use Rattle.serial_memory.specs.declared.kinds.Kind.TheVariants.{Static}
+use Rattle.serial_memory.specs.Memory.{Object}
 
 -- a static variable at the start
 abbrev pub first_object : StaticVar → Object

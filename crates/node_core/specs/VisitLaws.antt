@@ -8,10 +8,10 @@ use Rattle.mpc_values.specs.CallTable.{call_number}
 use Rattle.c_tree.specs.Asking.{Asks}
 use Rattle.c_tree.specs.Next.{next_of}
 use Rattle.c_tree.specs.ProgramOf.{program_of}
-use Rattle.run_model.specs.declared.records.Setup.{Setup}
-use Rattle.run_model.specs.World.{World}
-use Rattle.run_model.specs.Go.{go, has_ended, answers_of, calls_limit}
-use Rattle.run_model.specs.Run.{run, order_of, world_of, ending}
+use Rattle.serial_model.specs.declared.records.Setup.{Setup}
+use Rattle.serial_model.specs.World.{World}
+use Rattle.serial_model.specs.Go.{go, has_ended, answers_of, calls_limit}
+use Rattle.serial_model.specs.Run.{run, order_of, world_of, ending}
 use Rattle.node_core.specs.declared.node.Reply.{Reply}
 use Rattle.node_core.specs.declared.node.Reply.TheVariants.{Did, Stop}
 use Rattle.node_core.specs.Visits.{made, reply_of}

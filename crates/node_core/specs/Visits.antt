@@ -3,7 +3,7 @@ use Rattle.std.specs.Prelude.{Bool, List, [], ◌∷◌, ◌++◌}
 use Rattle.mpc_base.specs.declared.journals.Out.{Out}
 use Rattle.mpc_base.specs.declared.journals.Out.TheVariants.{Waits, Did as DidOut, Broke}
 use Rattle.mpc_base.specs.declared.journals.Entry.{Entry}
-use Rattle.run_model.specs.Go.{Step, Stays, Makes}
+use Rattle.serial_model.specs.Go.{Step, Stays, Makes}
 use Rattle.node_core.specs.declared.node.Reply.{Reply}
 use Rattle.node_core.specs.declared.node.Reply.TheVariants.{Did, Stop}
 

@@ -6,8 +6,8 @@ use Rattle.mpc_base.specs.declared.journals.Out.{Out}
 use Rattle.mpc_base.specs.declared.journals.Out.TheVariants.{Waits, Did, Broke}
 use Rattle.mpc_values.specs.declared.faults.Fault.{Fault}
 use Rattle.mpc_values.specs.declared.faults.Fault.TheVariants.{Calls}
-use Rattle.run_model.specs.World.{World, TaskState}
-use Rattle.run_model.specs.Go.{Act, Does, Fails, act, answers_at, calls_limit}
+use Rattle.serial_model.specs.World.{World, TaskState}
+use Rattle.serial_model.specs.Go.{Act, Does, Fails, act, answers_at, calls_limit}
 use Rattle.node_core.specs.Seen.{task_seen}
 use Rattle.node_core.specs.declared.state.State.{State}
 

@@ -1,16 +1,16 @@
 ghost use Rattle.std.specs.Prelude.{◌≡◌, ◌<◌, ◌≤◌, ◌+◌, ◌-◌, ◌^◌, pos, IfOk, OnErr, MatchOption, Ok};
 ghost use Rattle.std.specs.Option.{option_copied};
-ghost use Rattle.memory_model.specs.Access.{Objects, given, load, store, new, malloc, drop, free, free_at, makes, live_words, is_live_block};
-ghost use Rattle.run_model.specs.World.{owner_of};
-ghost use Rattle.run_model.specs.Go.{quota};
+ghost use Rattle.serial_memory.specs.Access.{Objects, given, load, store, new, malloc, drop, free, free_at, makes, live_words, is_live_block};
+ghost use Rattle.serial_model.specs.World.{owner_of};
+ghost use Rattle.serial_model.specs.Go.{quota};
 ghost use Rattle.node_core.specs.Seen.{access_seen};
 
 use crate::objects::Object;
 use crate::places::Places;
 use crate::ranges::range_of;
-use memory_model::Kind;
 use mpc_base::limits::DEFAULT_QUOTA;
 use mpc_base::{Answer, Fault, Memory, Obj, Word};
+use serial_memory::Kind;
 use std::alloc::Global;
 
 // What a place gives that holds this word.

@@ -1,7 +1,7 @@
 ghost use Rattle.std.specs.Prelude.{◌≡◌, ◌<◌, ◌≤◌, ◌-◌, ◌^◌, ℤ, Option, IfOk, OnErr};
 ghost use Rattle.mpc_values.specs.CallTable.{call_number};
-ghost use Rattle.memory_model.specs.Access.{Objects};
-ghost use Rattle.run_model.specs.Go.{act, print};
+ghost use Rattle.serial_memory.specs.Access.{Objects};
+ghost use Rattle.serial_model.specs.Go.{act, print};
 ghost use Rattle.node_core.specs.Seen.{act_seen, task_seen};
 
 use crate::accesses::{drop, free, load, malloc, new, store};

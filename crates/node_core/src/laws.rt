@@ -1,7 +1,7 @@
 ghost use Rattle.std.specs.Prelude.{ℕ, List};
 ghost use Rattle.mpc_values.specs.declared.calls.Call.{Call};
 ghost use Rattle.mpc_base.specs.declared.journals.Entry.{Entry};
-ghost use Rattle.run_model.specs.declared.records.Setup.{Setup};
+ghost use Rattle.serial_model.specs.declared.records.Setup.{Setup};
 ghost use Rattle.node_core.specs.VisitLaws.{AsksNext, VisitLaws, RunLaws};
 
 /// A run begins without entries and answers and goes on; while it goes on, it has no more entries than are

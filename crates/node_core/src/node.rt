@@ -3,15 +3,15 @@ ghost use Rattle.mpc_values.specs.CallTable.{call_number};
 ghost use Rattle.c_tree.specs.Asking.{Asks};
 ghost use Rattle.c_tree.specs.Next.{next_of};
 ghost use Rattle.c_tree.specs.ProgramOf.{program_of};
-ghost use Rattle.run_model.specs.Go.{go, has_ended, answers_of};
-ghost use Rattle.run_model.specs.Run.{world_of, ending, rank_state, LegalRun, RecordsRun};
+ghost use Rattle.serial_model.specs.Go.{go, has_ended, answers_of};
+ghost use Rattle.serial_model.specs.Run.{world_of, ending, rank_state, LegalRun, RecordsRun};
 ghost use Rattle.node_core.specs.Visits.{made, reply_of, reply_to};
 
 use crate::state::State;
 use mpc_base::{
     Answer, Call, End, Entries, Entry, Journal, Memory, Out, RankEnd, RankEnds, RankState, Text,
 };
-use run_model::{Last, RunRecord, Setup};
+use serial_model::{Last, RunRecord, Setup};
 use std::alloc::Global;
 use std::marker::Model;
 

@@ -1,8 +1,8 @@
 ghost use Rattle.std.specs.Prelude.{◌≡◌};
-ghost use Rattle.memory_model.specs.Access.{with_word};
+ghost use Rattle.serial_memory.specs.Access.{with_word};
 
-use memory_model::Kind;
 use mpc_base::Word;
+use serial_memory::Kind;
 use std::marker::Model;
 
 /// An object in memory: its kind and its words.
@@ -13,7 +13,7 @@ pub struct Object {
 }
 
 impl Model for Object {
-    ghost use Rattle.memory_model.specs.Memory.{Object as Described};
+    ghost use Rattle.serial_memory.specs.Memory.{Object as Described};
 
     ghost Value = { Described };
 

@@ -3,15 +3,15 @@ ghost use Rattle.std.specs.Option.{option_copied};
 ghost use Rattle.mpc_values.specs.declared.values.Word.TheVariants.{Undef};
 ghost use Rattle.mpc_values.specs.declared.owners.Owner.TheVariants.{Task};
 ghost use Rattle.mpc_values.specs.declared.values.Obj.TheVariants.{Dyn};
-ghost use Rattle.memory_model.specs.Memory.{object_of, with_object, without};
-ghost use Rattle.memory_model.specs.Access.{with_word, live_words};
-ghost use Rattle.run_model.specs.World.{first_memory};
-ghost use Rattle.run_model.specs.Go.{quota};
+ghost use Rattle.serial_memory.specs.Memory.{object_of, with_object, without};
+ghost use Rattle.serial_memory.specs.Access.{with_word, live_words};
+ghost use Rattle.serial_model.specs.World.{first_memory};
+ghost use Rattle.serial_model.specs.Go.{quota};
 ghost use Rattle.node_core.specs.Slots.{first_object, slot_at};
 
 use crate::objects::Object;
-use memory_model::Kind;
 use mpc_base::{Memory, Obj, StaticVar, Word};
+use serial_memory::Kind;
 use std::alloc::Global;
 use std::marker::Model;
 
@@ -25,7 +25,7 @@ pub struct Places {
 }
 
 impl Model for Places {
-    ghost use Rattle.memory_model.specs.Access.{Objects};
+    ghost use Rattle.serial_memory.specs.Access.{Objects};
     ghost use Rattle.node_core.specs.Coding.{objects_code};
 
     ghost Value = { Objects };

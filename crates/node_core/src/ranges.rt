@@ -1,8 +1,8 @@
 ghost use Rattle.std.specs.Prelude.{◌≡◌, ◌+◌, ◌≤◌, IfOk, length, Some};
 ghost use Rattle.mpc_values.specs.declared.owners.Owner.TheVariants.{Task};
-ghost use Rattle.memory_model.specs.Memory.{object_of};
-ghost use Rattle.memory_model.specs.Access.{range_of};
-ghost use Rattle.run_model.specs.World.{owner_of};
+ghost use Rattle.serial_memory.specs.Memory.{object_of};
+ghost use Rattle.serial_memory.specs.Access.{range_of};
+ghost use Rattle.serial_model.specs.World.{owner_of};
 ghost use Rattle.node_core.specs.Seen.{range_seen};
 
 use crate::objects::Object;

@@ -1,16 +1,16 @@
 ghost use Rattle.std.specs.Prelude.{◌≡◌, ◌<◌, ◌≤◌, ◌-◌, ◌^◌, [], List, IfOk, OnErr};
 ghost use Rattle.mpc_values.specs.CallTable.{call_number};
 ghost use Rattle.mpc_values.specs.declared.answers.Answer.{Answer};
-ghost use Rattle.run_model.specs.World.{first_memory, first_task};
-ghost use Rattle.run_model.specs.Go.{has_ended, visited, Makes, entry_of, calls_limit};
-ghost use Rattle.run_model.specs.Run.{ending};
+ghost use Rattle.serial_model.specs.World.{first_memory, first_task};
+ghost use Rattle.serial_model.specs.Go.{has_ended, visited, Makes, entry_of, calls_limit};
+ghost use Rattle.serial_model.specs.Run.{ending};
 ghost use Rattle.node_core.specs.Worlds.{world_seen, answers_after, state_of, outcome, tried, SameState, FaultsLeave};
 
 use crate::acts::act;
 use crate::places::Places;
 use mpc_base::limits::DEFAULT_CALLS;
 use mpc_base::{Answer, Call, End, Fault, Memory, Out, StaticVar};
-use run_model::Last;
+use serial_model::Last;
 use std::alloc::Global;
 
 /// What stands of a run of one task, beside its entries.

@@ -12,7 +12,7 @@ use c_tree::program::{Constructs, Ending, Function, Params, Program};
 use mpc_base::{
     Answer, Call, End, Entry, Fault, Memory, Obj, Out, RankState, StaticVar, Text, Word, Words,
 };
-use run_model::Setup;
+use serial_model::Setup;
 use std::alloc::Global;
 use std::test::*;
 

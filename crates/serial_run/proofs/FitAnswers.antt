@@ -13,18 +13,18 @@ use Rattle.mpc_values.specs.declared.faults.Fault.TheVariants.{Calls, OutputFull
 use Rattle.c_tree.specs.Asking.{Asks, AnswerKind, OfDone, OfWord, fits, is_of, kind_of}
 use Rattle.c_tree.specs.Next.{next_of}
 use Rattle.c_tree.specs.ProgramOf.{program_of}
-use Rattle.memory_model.specs.declared.kinds.Kind.TheVariants.{Local, Block}
-use Rattle.memory_model.specs.Memory.{Memory, Object, object_of}
-use Rattle.memory_model.specs.Access.{Objects, Range, Places, NoPlaces, range_of, Access, Answers, Breaks, given, load_in, store_in, new, malloc, drop, drop_in, free, free_at, makes, ends, is_live_block, live_words}
-use Rattle.run_model.specs.declared.records.Setup.{Setup}
-use Rattle.run_model.specs.World.{World, TaskState, owner_of}
-use Rattle.run_model.specs.Go.{Act, Does, Fails, Unbuilt, act, accessed, print, objects_of, quota, output_limit, calls_limit, count_of, Stays, acted, fails, visited, go, go_next, go_task, has_ended, has_finished, answers_of}
-use Rattle.run_model.specs.Run.{world_of}
+use Rattle.serial_memory.specs.declared.kinds.Kind.TheVariants.{Local, Block}
+use Rattle.serial_memory.specs.Memory.{Memory, Object, object_of}
+use Rattle.serial_memory.specs.Access.{Objects, Range, Places, NoPlaces, range_of, Access, Answers, Breaks, given, load_in, store_in, new, malloc, drop, drop_in, free, free_at, makes, ends, is_live_block, live_words}
+use Rattle.serial_model.specs.declared.records.Setup.{Setup}
+use Rattle.serial_model.specs.World.{World, TaskState, owner_of}
+use Rattle.serial_model.specs.Go.{Act, Does, Fails, Unbuilt, act, accessed, print, objects_of, quota, output_limit, calls_limit, count_of, Stays, acted, fails, visited, go, go_next, go_task, has_ended, has_finished, answers_of}
+use Rattle.serial_model.specs.Run.{world_of}
 use Rattle.node_core.specs.declared.node.Reply.{Reply}
 use Rattle.node_core.specs.declared.node.Reply.TheVariants.{Did as DidReply, Stop}
 use Rattle.node_core.specs.Visits.{reply_of}
 use Rattle.node_core.specs.VisitLaws.{AsksNext, visit_reply}
-use Rattle.run_model.specs.declared.records.Setup.{Setup}
+use Rattle.serial_model.specs.declared.records.Setup.{Setup}
 use Rattle.mpc_base.specs.declared.journals.Entry.{Entry}
 
 -- an access answers with this kind

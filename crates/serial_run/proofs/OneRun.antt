@@ -7,15 +7,15 @@ use Rattle.mpc_base.specs.declared.journals.End.TheVariants as end
 use Rattle.c_tree.specs.Next.{next_of}
 use Rattle.c_tree.specs.Programs.{Program}
 use Rattle.c_tree.specs.ProgramOf.{program_of}
-use Rattle.run_model.specs.declared.records.Setup.{Setup}
-use Rattle.run_model.specs.declared.records.RunRecord.{RunRecord}
-use Rattle.run_model.specs.declared.lasts.Last.{Last}
-use Rattle.run_model.specs.World.{World, TaskState, first_memory, first_task}
-use Rattle.run_model.specs.Go.{Step, Stays, Makes, has_finished, has_ended, go, go_next, go_task, answers_of}
-use Rattle.run_model.specs.Run.{Ran, run_from, ran_step, run, at_start, order_of, world_of, end_of, ending, rank_ends, RecordsRun}
-use Rattle.run_model.specs.Bounds.{Bounded}
-use Rattle.run_model.proofs.Runs.{run_from-append}
-use Rattle.run_model.proofs.Bounds.{bounded}
+use Rattle.serial_model.specs.declared.records.Setup.{Setup}
+use Rattle.serial_model.specs.declared.records.RunRecord.{RunRecord}
+use Rattle.serial_model.specs.declared.lasts.Last.{Last}
+use Rattle.serial_model.specs.World.{World, TaskState, first_memory, first_task}
+use Rattle.serial_model.specs.Go.{Step, Stays, Makes, has_finished, has_ended, go, go_next, go_task, answers_of}
+use Rattle.serial_model.specs.Run.{Ran, run_from, ran_step, run, at_start, order_of, world_of, end_of, ending, rank_ends, RecordsRun}
+use Rattle.serial_model.specs.Bounds.{Bounded}
+use Rattle.serial_model.proofs.Runs.{run_from-append}
+use Rattle.serial_model.proofs.Bounds.{bounded}
 use Rattle.serial_run.specs.OneRun.{OneRun}
 
 -- ---- a run is that of its setup's program

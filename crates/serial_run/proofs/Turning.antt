@@ -12,9 +12,9 @@ use Rattle.c_code.proofs.Following.{demands_once, asks_demanded}
 use Rattle.c_compile.specs.Correct.{Behaves}
 use Rattle.c_compile.specs.Plain.{is_plain}
 use Rattle.c_compile.proofs.Plain.{plain_asks}
-use Rattle.run_model.specs.declared.records.Setup.{Setup}
-use Rattle.run_model.specs.Go.{has_ended, answers_of}
-use Rattle.run_model.specs.Run.{world_of}
+use Rattle.serial_model.specs.declared.records.Setup.{Setup}
+use Rattle.serial_model.specs.Go.{has_ended, answers_of}
+use Rattle.serial_model.specs.Run.{world_of}
 use Rattle.node_core.specs.Held.{Held}
 use Rattle.node_core.specs.declared.node.Reply.TheVariants.{Did, Stop}
 use Rattle.node_core.specs.VisitLaws.{AsksNext, IsLegal, visited_entries, visit_reply}

@@ -1,8 +1,8 @@
 -- A program has one run as one task.
 use Rattle.std.specs.Prelude.{◌≡◌}
 use Rattle.c_tree.specs.ProgramOf.{program_of}
-use Rattle.run_model.specs.declared.records.RunRecord.{RunRecord}
-use Rattle.run_model.specs.Run.{RecordsRun}
+use Rattle.serial_model.specs.declared.records.RunRecord.{RunRecord}
+use Rattle.serial_model.specs.Run.{RecordsRun}
 
 -- Two records tell the same run: its entries, how it ended, and the ends of its ranks.
 pub record SameRun (a b : RunRecord) : Type 0 where

@@ -4,8 +4,8 @@ use Rattle.mpc_values.specs.declared.calls.Call.{Call}
 use Rattle.c_tree.specs.ProgramOf.{program_of}
 use Rattle.c_compile.specs.Correct.{Behaves}
 use Rattle.c_compile.specs.Plain.{is_plain}
-use Rattle.run_model.specs.Go.{has_ended, answers_of}
-use Rattle.run_model.specs.Run.{world_of}
+use Rattle.serial_model.specs.Go.{has_ended, answers_of}
+use Rattle.serial_model.specs.Run.{world_of}
 use Rattle.node_core.specs.Held.{Held}
 use Rattle.task_vm.specs.Tasks.{Tasked, HasHad, IsAsking}
 

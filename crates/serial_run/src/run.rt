@@ -4,15 +4,15 @@ ghost use Rattle.mpc_values.specs.CallTable.{call_number};
 ghost use Rattle.c_tree.specs.ProgramOf.{program_of};
 ghost use Rattle.c_compile.specs.Correct.{HasMain, Behaves};
 ghost use Rattle.c_compile.specs.Plain.{is_plain};
-ghost use Rattle.run_model.specs.Go.{has_ended};
-ghost use Rattle.run_model.specs.Run.{world_of, RecordsRun};
+ghost use Rattle.serial_model.specs.Go.{has_ended};
+ghost use Rattle.serial_model.specs.Run.{world_of, RecordsRun};
 ghost use Rattle.serial_run.specs.Rounds.{Together, Asking, Turned};
 
 use c_code::Code;
 use c_compile::compile;
 use mpc_base::{Call, Memory};
 use node_core::{Node, Reply};
-use run_model::{RunRecord, Setup};
+use serial_model::{RunRecord, Setup};
 use std::alloc::Global;
 use std::sync::Arc;
 use task_vm::{Task, Want};

@@ -1,8 +1,8 @@
 use Rattle.std.proofs.Common.{◌≡◌, ◌∙◌, ap, [], pos}
 use Rattle.c_tree.specs.Next.{next_of}
 use Rattle.c_tree.specs.ProgramOf.{program_of}
-use Rattle.run_model.specs.Go.{answers_of}
-use Rattle.run_model.specs.Run.{world_of}
+use Rattle.serial_model.specs.Go.{answers_of}
+use Rattle.serial_model.specs.Run.{world_of}
 use Rattle.node_core.specs.Held.{Held}
 use Rattle.node_core.proofs.Leads.{run_laws}
 use Rattle.node_core.proofs.tests.run_of_an_empty_main_has_one_entry.Goals as goal

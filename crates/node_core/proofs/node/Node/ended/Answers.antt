@@ -1,5 +1,5 @@
 use Rattle.std.proofs.Common.{◌∙◌, ap, sym}
-use Rattle.run_model.specs.Run.{ending, world_of}
+use Rattle.serial_model.specs.Run.{ending, world_of}
 use Rattle.node_core.proofs.node.Node.ended.Goals as goal
 
 pub returns : goal.returns

@@ -1,6 +1,6 @@
 use Rattle.std.proofs.Common.{◌∷◌, ◌++◌, [], ◌∙◌, ap, sym}
-use Rattle.run_model.specs.Run.{ending, world_of}
-use Rattle.run_model.specs.World.{World}
+use Rattle.serial_model.specs.Run.{ending, world_of}
+use Rattle.serial_model.specs.World.{World}
 use Rattle.node_core.proofs.Records.{records}
 use Rattle.node_core.proofs.node.Node.into_record.Goals as goal
 

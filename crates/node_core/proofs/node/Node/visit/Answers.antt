@@ -1,7 +1,7 @@
 use Rattle.std.proofs.Common.{◌≡◌, true, ap, sym, arith}
-use Rattle.run_model.specs.World.{World}
-use Rattle.run_model.specs.Go.{has_ended}
-use Rattle.run_model.specs.Run.{world_of}
+use Rattle.serial_model.specs.World.{World}
+use Rattle.serial_model.specs.Go.{has_ended}
+use Rattle.serial_model.specs.Run.{world_of}
 use Rattle.node_core.specs.Visits.{made, reply_of}
 use Rattle.node_core.proofs.Visits.{go_ended, end_here, few_here, visit_keeps, visit_makes, visit_replies, entry_pushed}
 use Rattle.node_core.proofs.node.Node.visit.Goals as goal

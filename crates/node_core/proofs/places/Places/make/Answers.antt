@@ -1,7 +1,7 @@
 use Rattle.std.proofs.Common.{◌≡◌, length, replicate, ap, ◌∙◌, rules, arith}
 use Rattle.std.proofs.lemmas.List.{length-replicate}
 use Rattle.mpc_values.specs.declared.values.Word.TheVariants.{Undef}
-use Rattle.memory_model.specs.Memory.{Object}
+use Rattle.serial_memory.specs.Memory.{Object}
 use Rattle.node_core.proofs.Placed.{live_here}
 use Rattle.node_core.proofs.Changes.{one_more, words_more}
 use Rattle.node_core.proofs.places.Places.make.Goals as goal

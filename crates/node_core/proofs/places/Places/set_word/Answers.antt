@@ -1,5 +1,5 @@
 use Rattle.std.proofs.lemmas.List.{length-set}
-use Rattle.memory_model.specs.Access.{with_word}
+use Rattle.serial_memory.specs.Access.{with_word}
 use Rattle.node_core.proofs.Changes.{variable_changed, made_changed, held_changed}
 use Rattle.node_core.proofs.places.Places.set_word.Goals as goal
 
