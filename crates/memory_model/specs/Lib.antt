@@ -1,0 +1,5 @@
+pub mod Memory
+pub mod Marks
+pub mod Ranges
+pub mod Access
+pub mod Names
