@@ -1,0 +1,4 @@
+pub mod Arguments
+pub mod Meetings
+pub mod Results
+pub mod Changes

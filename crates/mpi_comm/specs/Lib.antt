@@ -1,0 +1,3 @@
+pub mod Communicators
+pub mod Splitting
+pub mod Making

@@ -1,0 +1,4 @@
+pub mod Messages
+pub mod Requests
+pub mod Completing
+pub mod Pending

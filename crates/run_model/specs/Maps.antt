@@ -1,0 +1,26 @@
+-- When one list of words stands for the memories of all owners.
+use Rattle.std.specs.Prelude.{◌≡◌, ◌⊎◌, ℕ, ◌+◌, ◌<◌, ◌≤◌, List, length, take, drop, slice_get, Some, IsSomeAnd}
+use Rattle.mpc_values.specs.declared.values.Word.{Word}
+use Rattle.mpc_values.specs.declared.values.Obj.{Obj}
+use Rattle.mpc_values.specs.declared.owners.Owner.{Owner}
+use Rattle.mpc_base.specs.declared.journals.MapRow.{MapRow}
+use Rattle.memory_model.specs.Memory.{Memory, Object, object_of}
+
+-- the row is that of this object
+abbrev pub IsRowOf : MapRow → Owner → Obj → Type 0
+IsRowOf row owner obj = (row.owner ≡ owner) × (row.obj ≡ obj)
+
+-- the ranges of two rows have no place in common
+abbrev pub AreApart : MapRow → MapRow → Type 0
+AreApart a b = (a.base + a.len ≤ b.base) ⊎ (b.base + b.len ≤ a.base)
+
+-- The rows and the words stand for the memories: there is one row for each live object and no other, with its length; the
+-- ranges of two rows have no place in common; and each place holds the object's word.
+pub record MapAgrees (rows : List MapRow) (words : List Word) (m : Memory) : Type 0 where
+  pub each : (owner : Owner) (obj : Obj) (object : Object) → object_of m owner obj ≡ Some object
+      → (i : ℕ) × (row : MapRow) × (slice_get rows i ≡ Some row) × IsRowOf row owner obj
+  pub live : (i : ℕ) (row : MapRow) → slice_get rows i ≡ Some row
+      → IsSomeAnd (object_of m row.owner row.obj) (λ object. (length object.words ≡ row.len) × (take row.len (drop row.base words) ≡ object.words))
+  pub within : (i : ℕ) (row : MapRow) → slice_get rows i ≡ Some row → row.base + row.len ≤ length words
+  pub one : (i j : ℕ) (row other : MapRow) → i < j → slice_get rows i ≡ Some row → slice_get rows j ≡ Some other
+      → (IsRowOf other row.owner row.obj → ⊥) × AreApart row other
