@@ -21,3 +21,5 @@ pub mod Matches
 pub mod Orderly
 pub mod Maps
 pub mod Records
+pub mod Played
+pub mod Scenes

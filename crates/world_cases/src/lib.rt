@@ -1,0 +1,112 @@
+//! Worked cases of runs, each an equation that the check computes on the definitions: what is asked in which order,
+//! and what becomes of it. The cases are in specs/.
+#![tactic(auto)]
+
+ghost use Rattle.world_cases.specs.Matching.{Matching};
+ghost use Rattle.world_cases.specs.EagerSends.{EagerSends};
+ghost use Rattle.world_cases.specs.TagsAndOrder.{TagsAndOrder};
+ghost use Rattle.world_cases.specs.Lengths.{Lengths};
+ghost use Rattle.world_cases.specs.Held.{Held};
+ghost use Rattle.world_cases.specs.Pending.{Pending};
+ghost use Rattle.world_cases.specs.LongMessage.{LongMessage};
+ghost use Rattle.world_cases.specs.Communicators.{Communicators};
+ghost use Rattle.world_cases.specs.Collectives.{Collectives};
+ghost use Rattle.world_cases.specs.CollectiveResults.{CollectiveResults};
+ghost use Rattle.world_cases.specs.FourFolds.{FourFolds};
+ghost use Rattle.world_cases.specs.Sharing.{Sharing};
+ghost use Rattle.world_cases.specs.Objects.{Objects};
+ghost use Rattle.world_cases.specs.Programs.{Programs};
+ghost use Rattle.world_cases.specs.WholeRuns.{WholeRuns};
+ghost use Rattle.world_cases.specs.OneMessage.{OneMessage};
+ghost use Rattle.world_cases.specs.StencilOfTwo.{StencilOfTwo};
+ghost use Rattle.world_cases.specs.StencilOfEight.{StencilOfEight};
+
+/// Six postings for one receiver meet as the queue should match them (MPI 3.1, section 3.5).
+pub fn matching()
+    ensures { Matching }
+{}
+
+/// Two ranks send to each other and then receive: with eager sends both finish, without both are blocked.
+pub fn eager_sends()
+    ensures { EagerSends }
+{}
+
+/// A receive takes a message by tag, by source, and of two that fit the one sent first.
+pub fn tags_and_order()
+    ensures { TagsAndOrder }
+{}
+
+/// Messages that are too long, shorter, of another datatype, empty, and to nobody.
+pub fn lengths()
+    ensures { Lengths }
+{}
+
+/// Which sends are eager, by the words that the sender's eager messages hold already.
+pub fn held()
+    ensures { Held }
+{}
+
+/// What a store, a load, a receive, a drop and a free meet while a message is under way.
+pub fn pending()
+    ensures { Pending }
+{}
+
+/// The pending rule over 2,000 words that two tasks share.
+pub fn long_message()
+    ensures { LongMessage }
+{}
+
+/// Communicators are split by colour and key, duplicated, and freed.
+pub fn communicators()
+    ensures { Communicators }
+{}
+
+/// What each rank gets of a collective call, who waits, and what differs.
+pub fn collectives()
+    ensures { Collectives }
+{}
+
+/// What each rank gets, by what all gave.
+pub fn collective_results()
+    ensures { CollectiveResults }
+{}
+
+/// Four ranks fold by Scan, Exscan and Allreduce.
+pub fn four_folds()
+    ensures { FourFolds }
+{}
+
+/// Shared variables and their directives, over two instances.
+pub fn sharing()
+    ensures { Sharing }
+{}
+
+/// Private variables, blocks and locals, the quota, the output, and the limit of entries.
+pub fn objects()
+    ensures { Objects }
+{}
+
+/// A whole program, with the three ways to pick tasks.
+pub fn programs()
+    ensures { Programs }
+{}
+
+/// Whole programs on two tasks, from the start to the end.
+pub fn whole_runs()
+    ensures { WholeRuns }
+{}
+
+/// One message of a whole run, by the relations that say what holds of all.
+pub fn one_message()
+    ensures { OneMessage }
+{}
+
+/// A user's program, whole, on two ranks.
+pub fn stencil_of_two()
+    ensures { StencilOfTwo }
+{}
+
+/// The same on eight ranks.
+pub fn stencil_of_eight()
+    ensures { StencilOfEight }
+{}
