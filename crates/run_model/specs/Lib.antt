@@ -21,5 +21,6 @@ pub mod Matches
 pub mod Orderly
 pub mod Maps
 pub mod Records
+pub mod Stepping
 pub mod Played
 pub mod Scenes

@@ -1,0 +1,53 @@
+//! Laws of runs, as contracts of functions that do nothing.
+ghost use Rattle.std.specs.Prelude.{◌≡◌, ◌≢◌, ℕ, true, List, [], ◌∷◌, ◌++◌, slice_get, Some};
+ghost use Rattle.mpc_base.specs.declared.journals.Entry.{Entry};
+ghost use Rattle.mpc_base.specs.declared.journals.End.TheVariants as end;
+ghost use Rattle.run_model.specs.declared.progress.Course.{Course};
+ghost use Rattle.run_model.specs.Setup.{Setup};
+ghost use Rattle.run_model.specs.World.{World};
+ghost use Rattle.run_model.specs.Steps.{Stays, Makes, answers_of};
+ghost use Rattle.run_model.specs.Go.{go, is_blocked};
+ghost use Rattle.run_model.specs.Ending.{ending};
+ghost use Rattle.run_model.specs.Run.{run, ran_step, at_start, order_of, world_of};
+ghost use Rattle.run_model.specs.Stepping.{IsStep, Bounded, answers_told};
+
+/// A run begins at the start of its setup, and with one task more it goes on by one step of that task.
+pub fn runs_go_on_by_one_step()
+    ensures begins { (setup : Setup) → run setup [] ≡ at_start setup }
+    ensures goes_on { (setup : Setup) (order : List ℕ) (task : ℕ) → run setup (order ++ task ∷ []) ≡ ran_step (run setup order) (go setup (run setup order).world task) }
+{}
+
+/// Entries that are a run of a setup are one with the entry of a step after them, and the world is then that of the step.
+pub fn legal_runs_go_on()
+    ensures legal { (setup : Setup) (entries : List Entry) (entry : Entry) (world : World) → (run setup (order_of entries)).entries ≡ entries → go setup (world_of setup entries) entry.task ≡ Makes entry world
+        → (run setup (order_of (entries ++ entry ∷ []))).entries ≡ entries ++ entry ∷ [] }
+    ensures world { (setup : Setup) (entries : List Entry) (entry : Entry) (world : World) → go setup (world_of setup entries) entry.task ≡ Makes entry world → world_of setup (entries ++ entry ∷ []) ≡ world }
+{}
+
+/// The first entries of a run of a setup are one.
+pub fn beginnings_of_legal_runs_are_legal()
+    ensures { (setup : Setup) (entries more : List Entry) → (run setup (order_of (entries ++ more))).entries ≡ entries ++ more → (run setup (order_of entries)).entries ≡ entries }
+{}
+
+/// A step is what the call comes to that the program of the task asks after the task's own answers, and its entry names
+/// the task that stepped.
+pub fn steps_are_of_their_tasks()
+    ensures step { (setup : Setup) (w : World) (task : ℕ) (entry : Entry) (after : World) → go setup w task ≡ Makes entry after → IsStep setup w task entry after }
+    ensures task { (setup : Setup) (w : World) (task : ℕ) (entry : Entry) (after : World) → go setup w task ≡ Makes entry after → entry.task ≡ task }
+{}
+
+/// The answers that a task has had in a run are those that its own entries tell, in order.
+pub fn answers_are_those_of_own_entries()
+    ensures { (setup : Setup) (order : List ℕ) (task : ℕ) → answers_of (run setup order).world task ≡ answers_told task (run setup order).entries }
+{}
+
+/// A run has at most one entry more than are allowed to all its tasks together.
+pub fn runs_are_bounded()
+    ensures { (setup : Setup) (order : List ℕ) → Bounded setup (run setup order) }
+{}
+
+/// Where a run has ended no task makes an entry, and a blocked task makes none until another one's step.
+pub fn ended_runs_and_blocked_tasks_stay()
+    ensures ended { (setup : Setup) (w : World) (task : ℕ) → ending setup w ≢ end.Going → go setup w task ≡ Stays }
+    ensures blocked { (setup : Setup) (w : World) (task : ℕ) (course : Course) → slice_get w.log.courses task ≡ Some course → is_blocked setup w task course ≡ true → go setup w task ≡ Stays }
+{}
