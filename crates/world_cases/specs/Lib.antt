@@ -1,3 +1,4 @@
+pub mod Framed
 pub mod Frames
 pub mod Stencil
 pub mod Matching
@@ -18,3 +19,6 @@ pub mod WholeRuns
 pub mod OneMessage
 pub mod StencilOfTwo
 pub mod StencilOfEight
+pub mod Exchanges
+pub mod Deliveries
+pub mod Buffers

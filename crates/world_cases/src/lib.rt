@@ -20,6 +20,9 @@ ghost use Rattle.world_cases.specs.WholeRuns.{WholeRuns};
 ghost use Rattle.world_cases.specs.OneMessage.{OneMessage};
 ghost use Rattle.world_cases.specs.StencilOfTwo.{StencilOfTwo};
 ghost use Rattle.world_cases.specs.StencilOfEight.{StencilOfEight};
+ghost use Rattle.world_cases.specs.Exchanges.{Exchanges};
+ghost use Rattle.world_cases.specs.Deliveries.{Deliveries};
+ghost use Rattle.world_cases.specs.Buffers.{Buffers};
 
 /// Six postings for one receiver meet as the queue should match them (MPI 3.1, section 3.5).
 pub fn matching()
@@ -109,4 +112,19 @@ pub fn stencil_of_two()
 /// The same on eight ranks.
 pub fn stencil_of_eight()
     ensures { StencilOfEight }
+{}
+
+/// Two ranks send to each other and then receive, from the first entry to the last.
+pub fn exchanges()
+    ensures { Exchanges }
+{}
+
+/// Which message comes, and what of it, from the first entry to the last.
+pub fn deliveries()
+    ensures { Deliveries }
+{}
+
+/// What the places of messages under way meet, from the first entry to the last.
+pub fn buffers()
+    ensures { Buffers }
 {}
