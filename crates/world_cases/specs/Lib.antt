@@ -22,3 +22,7 @@ pub mod StencilOfEight
 pub mod Exchanges
 pub mod Deliveries
 pub mod Buffers
+pub mod Splits
+pub mod Meetings
+pub mod Instances
+pub mod Endings

@@ -23,6 +23,10 @@ ghost use Rattle.world_cases.specs.StencilOfEight.{StencilOfEight};
 ghost use Rattle.world_cases.specs.Exchanges.{Exchanges};
 ghost use Rattle.world_cases.specs.Deliveries.{Deliveries};
 ghost use Rattle.world_cases.specs.Buffers.{Buffers};
+ghost use Rattle.world_cases.specs.Splits.{Splits};
+ghost use Rattle.world_cases.specs.Meetings.{Meetings};
+ghost use Rattle.world_cases.specs.Instances.{Instances};
+ghost use Rattle.world_cases.specs.Endings.{Endings};
 
 /// Six postings for one receiver meet as the queue should match them (MPI 3.1, section 3.5).
 pub fn matching()
@@ -127,4 +131,24 @@ pub fn deliveries()
 /// What the places of messages under way meet, from the first entry to the last.
 pub fn buffers()
     ensures { Buffers }
+{}
+
+/// Communicators are split, duplicated and freed, from the first entry to the last.
+pub fn splits()
+    ensures { Splits }
+{}
+
+/// Collective calls of three, four and five ranks, from the first entry to the last.
+pub fn meetings()
+    ensures { Meetings }
+{}
+
+/// Shared variables of two NUMA instances and of a node, from the first entry to the last.
+pub fn instances()
+    ensures { Instances }
+{}
+
+/// How runs end: dead blocks, the quota, arithmetic, an abort, and a fault while others wait.
+pub fn endings()
+    ensures { Endings }
 {}
