@@ -30,12 +30,12 @@ pub length_replicate : {X : Type 0} (count : ℕ) (x : X) → length (replicate 
 length_replicate zero x = refl
 length_replicate (suc count) x = ap suc (length_replicate count x)
 
-none_yet : (count task : ℕ) → answers_at (slice_get (replicate count []) task) ≡ []
+pub none_yet : (count task : ℕ) → answers_at (slice_get (replicate count []) task) ≡ []
 none_yet zero task = refl
 none_yet (suc count) zero = refl
 none_yet (suc count) (suc task) = none_yet count task
 
-abbrev list_of : Option Answer → List Answer
+abbrev pub list_of : Option Answer → List Answer
 list_of None = []
 list_of (Some answer) = answer ∷ []
 
@@ -54,7 +54,7 @@ told_last task entries entry =
     filter_map-append (answer_to task) entries (entry ∷ []) ∙ ap (λ more. answers_told task entries ++ more) (told_one task entry (answer_to task entry) refl)
 
 module _ {setup : Setup} {w : World} {task : ℕ} {entry : Entry} {after : World} (s : IsStep setup w task entry after) where
-  out_is : out_of (tried setup w task s.call) ≡ entry.out
+  pub out_is : out_of (tried setup w task s.call) ≡ entry.out
   out_is = ap (λ (e : Entry). e.out) (entry_is s)
 
   pub courses_are : slice_set w.log.courses task (course_after (course_of w.log task) s.call s.line (out_of (tried setup w task s.call))) ≡ after.log.courses
@@ -64,7 +64,7 @@ module _ {setup : Setup} {w : World} {task : ℕ} {entry : Entry} {after : World
   answers_are = ap (λ (x : World). x.log.answers) (after_is s)
 
   -- of the task that stepped
-  own_answers : length w.log.answers ≡ length w.log.courses → answers_of after task ≡ answers_of w task ++ list_of (answer_told entry.out)
+  pub own_answers : length w.log.answers ≡ length w.log.courses → answers_of after task ≡ answers_of w task ++ list_of (answer_told entry.out)
   own_answers even =
       ap (λ answers. answers_at (slice_get answers task)) (sym answers_are)
       ∙ ap answers_at (get_set_same w.log.answers task _ (subst (λ n. task < n) (sym even) (slice_get_within w.log.courses task s.course s.there)))
@@ -72,7 +72,7 @@ module _ {setup : Setup} {w : World} {task : ℕ} {entry : Entry} {after : World
       ∙ told_more (answers_of w task) entry.out
 
   -- of another
-  other_answers : (other : ℕ) → other ≢ task → answers_of after other ≡ answers_of w other
+  pub other_answers : (other : ℕ) → other ≢ task → answers_of after other ≡ answers_of w other
   other_answers other apart =
       ap (λ answers. answers_at (slice_get answers other)) (sym answers_are)
       ∙ ap answers_at (get_set_other w.log.answers task other _ apart)
@@ -87,14 +87,14 @@ module _ {setup : Setup} {w : World} {task : ℕ} {entry : Entry} {after : World
       by (inl h) = absurd (apart (sym h.1 ∙ task_is s))
       by (inr h) = h.0
 
-answered_start : (setup : Setup) → Answered setup (at_start setup)
+pub answered_start : (setup : Setup) → Answered setup (at_start setup)
 answered_start setup = record {
   courses = length_replicate (tasks_of setup) first_course;
   lists = length_replicate (tasks_of setup) [];
   own = λ task. none_yet (tasks_of setup) task;
 }
 
-answered_step : (setup : Setup) (r : Ran) (task : ℕ) (entry : Entry) (after : World) → Answered setup r → IsStep setup r.world task entry after → Answered setup (record { entries = r.entries ++ entry ∷ []; world = after })
+pub answered_step : (setup : Setup) (r : Ran) (task : ℕ) (entry : Entry) (after : World) → Answered setup r → IsStep setup r.world task entry after → Answered setup (record { entries = r.entries ++ entry ∷ []; world = after })
 answered_step setup r task entry after h s = record {
   courses = ap length (sym (courses_are s)) ∙ length_set r.world.log.courses task _ ∙ h.courses;
   lists = ap length (sym (answers_are s)) ∙ length_set r.world.log.answers task _ ∙ h.lists;

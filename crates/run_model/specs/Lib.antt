@@ -22,5 +22,6 @@ pub mod Orderly
 pub mod Maps
 pub mod Records
 pub mod Stepping
+pub mod Fitting
 pub mod Played
 pub mod Scenes
