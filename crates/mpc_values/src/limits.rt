@@ -57,11 +57,11 @@ pub const MAX_QUOTA: u32 = 1_048_576;
 /// The most words in live locals and blocks of a task where `--quota` is not given.
 pub const DEFAULT_QUOTA: u32 = 65_536;
 
-/// The most journal entries of all tasks together, and of one task that `--calls` can set.
+/// The most journal entries that all tasks may have together, and that `--calls` can set for one: one entry more ends the run.
 pub const MAX_CALLS: u32 = 16_000_000;
 
 /// The most journal entries of a task where `--calls` is not given.
 pub const DEFAULT_CALLS: u32 = 250_000;
 
-/// The numbers of postings, requests, objects, communicators and arrivals stay below this one.
+/// The greatest number of a posting, request, object, communicator or arrival.
 pub const MAX_GIVEN: u32 = 4_294_967_000;

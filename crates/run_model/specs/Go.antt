@@ -49,6 +49,7 @@ unfoldable pub go_with : Setup → World → ℕ → Next → Step
 go_with setup w task next = if may_go setup w task (slice_get w.log.courses task) then go_next setup w task next else Stays
 
 -- One step of a task: it asks what its program asks after the task's own answers. It makes no entry where the run has
--- ended, where there is no such task, where the task has finished, or where it is blocked.
+-- ended, where there is no such task, where the task has finished, or where it is blocked; nor where its program asks
+-- nothing more, or has had an answer that fits no call of it, as no typed program has.
 unfoldable pub go : Setup → World → ℕ → Step
 go setup w task = go_with setup w task (next_of setup.program (answers_of w task))

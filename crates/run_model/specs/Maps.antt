@@ -10,9 +10,13 @@ use Rattle.memory_model.specs.Memory.{Memory, Object, object_of}
 abbrev pub IsRowOf : MapRow → Owner → Obj → Type 0
 IsRowOf row owner obj = (row.owner ≡ owner) × (row.obj ≡ obj)
 
--- the ranges of two rows have no place in common
+-- the place is one of the row
+abbrev pub IsIn : ℕ → MapRow → Type 0
+IsIn place row = (row.base ≤ place) × (place < row.base + row.len)
+
+-- no place is one of both rows; a row without places has none
 abbrev pub AreApart : MapRow → MapRow → Type 0
-AreApart a b = (a.base + a.len ≤ b.base) ⊎ (b.base + b.len ≤ a.base)
+AreApart a b = (place : ℕ) → IsIn place a → IsIn place b → ⊥
 
 -- The rows and the words stand for the memories: there is one row for each live object and no other, with its length; the
 -- ranges of two rows have no place in common; and each place holds the object's word.

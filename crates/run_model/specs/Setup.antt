@@ -1,10 +1,12 @@
 -- What a run is set up from, and when a setup is valid.
-use Rattle.std.specs.Prelude.{◌≡◌, ℕ, ◌*◌, ◌≤◌, ◌<◌, List, length, map, sum, All}
+use Rattle.std.specs.Prelude.{◌≡◌, ℕ, ◌*◌, ◌≤◌, ◌<◌, T, List, length, map, sum, All}
+use Rattle.std.specs.List.{list_all}
 use Rattle.mpc_values.specs.declared.owners.StaticVar.{StaticVar}
 use Rattle.mpc_values.specs.declared.limits.TheConstants.{MAX_TASKS, MAX_CORES, MAX_EAGER, MAX_QUOTA, MAX_CALLS, MAX_STATIC_VARIABLES, MAX_STATIC_WORDS, MAX_CONSTRUCTS}
 use Rattle.c_tree.specs.Programs.{Program}
 use Rattle.c_tree.specs.ProgramOf.{program_of}
 use Rattle.topology.specs.declared.core_numbers.CoreNumbers.{CoreNumbers}
+use Rattle.topology.specs.Instances.{numbers_fit}
 use Rattle.run_model.specs.declared.records.Setup.{Setup as Given}
 
 -- The typed program, the cores of the machine, the core of each task by rising task number, the most words of a
@@ -37,6 +39,7 @@ pub record Valid (setup : Setup) : Type 0 where
   pub some_task : 1 ≤ tasks_of setup
   pub few_tasks : tasks_of setup ≤ MAX_TASKS
   pub few_cores : length setup.machine ≤ MAX_CORES
+  pub instances : T (list_all numbers_fit setup.machine)
   pub placed : All (λ core. core < length setup.machine) setup.cores
   pub eager : setup.eager ≤ MAX_EAGER
   pub quota : setup.quota ≤ MAX_QUOTA
