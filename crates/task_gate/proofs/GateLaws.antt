@@ -1,11 +1,9 @@
 -- Whose items histories have, which claims they keep, and passes taken from the last.
-use Rattle.std.proofs.Common.{◌≡◌, ◌≢◌, ℕ, zero, suc, List, [], ◌∷◌, ◌++◌, length, cond, eqb, eq-eqb, refl, sym, ap, ◌∙◌, subst, Bool, true, false, slice_get, Some, None}
+use Rattle.std.proofs.Common.{◌≡◌, ℕ, zero, suc, List, [], ◌∷◌, ◌++◌, length, cond, eqb, eq-eqb, refl, ap, ◌∙◌, subst, Bool, true, false, slice_get, Some}
 use base.Stored.{Gv}
-use Rattle.atomic_table.specs.Seated.{TableId}
-use Rattle.task_gate.specs.History.{items_of, StartsWith, Keeps, KeepsAll}
+use Rattle.task_gate.specs.History.{items_of, StartsWith, KeepsAll}
 use Rattle.task_gate.specs.Laws.{HistoryLaws, ClaimLaws, PassLaws}
-use Rattle.task_gate.specs.Passes.{AllNew, IsNew, IsAt, leaving_with, number_of}
-use Rattle.task_gate.specs.declared.passes.Pass.{Pass}
+use Rattle.task_gate.specs.Passes.{leaving_with, number_of}
 use Rattle.task_gate.proofs.Claims.{items_else}
 use Rattle.task_gate.proofs.Lists.{starts_more, starts_same, keeps_both}
 

@@ -1,5 +1,5 @@
 -- What holds of all histories, claims and passes, for those who compose visits and joins.
-use Rattle.std.specs.Prelude.{◌≡◌, ◌≢◌, ℕ, ◌<◌, List, [], ◌∷◌, ◌++◌, length}
+use Rattle.std.specs.Prelude.{◌≡◌, ◌≢◌, ℕ, List, [], ◌∷◌, ◌++◌, length}
 use base.Stored.{Gv}
 use Rattle.atomic_table.specs.Seated.{TableId}
 use Rattle.task_gate.specs.History.{items_of, StartsWith, Keeps, KeepsAll}
