@@ -1,5 +1,5 @@
 //! What a start and a join hand to their spawner. Nothing else makes such a value, and none can be copied or
-//! dropped. So a spawner that stands over another one hands each on at most once, and nobody raises the counts
+//! dropped. So a spawner that wraps another one hands each on at most once, and nobody raises the counts
 //! of a spawner but by a start.
 ghost use Rattle.std.specs.Prelude.{◌≡◌};
 ghost use Rattle.mpc_base.specs.Starts.{choice_of};
