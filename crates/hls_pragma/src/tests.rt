@@ -1,5 +1,5 @@
 //! Lines and what they say, worked out by hand.
-use crate::{NameSpan, Names, Pragma, read_pragma};
+use crate::{NameSpan, Names, Pragma, read_pragma, reading_laws};
 use mpc_values::{Level, Memory};
 use std::alloc::Global;
 use std::test::Fail;
@@ -101,6 +101,7 @@ fn each_refused_line(rt: HostRuntime) -> Result<(), Fail> {
     for line in cases {
         assert_eq!(rt; said(rt.alloc(), line)?, Meaning::Refused, "{line}");
     }
+    reading_laws();
     Ok(())
 }
 
