@@ -6,10 +6,9 @@ use Rattle.std.specs.Str.{bytes_eq}
 use Rattle.c_lex.specs.declared.pieces.Found.TheVariants.{Include, Pragma}
 use Rattle.c_lex.specs.declared.directives.Along.TheVariants.{Between}
 use Rattle.c_lex.specs.Bytes.{is_gap, is_letter, is_name_byte, is_line_byte}
-use Rattle.c_lex.specs.Directives.{is_line_over}
 use Rattle.c_lex.specs.Defined.{Meanings}
-use Rattle.c_lex.specs.Words.{is_key}
-use Rattle.c_lex.specs.Front.{run, number_of, value_found, value_at, numbered, starts, define_agreed, define_named, define_at, directive_named, directive_at}
+use Rattle.c_lex.specs.Lookups.{is_key}
+use Rattle.c_lex.specs.Front.{run, is_line_over, number_of, value_found, value_at, numbered, starts, define_agreed, define_named, define_at, directive_named, directive_at}
 
 -- a part of the source by its two ends
 pub part : (src : List ℕ) (at len : ℕ) → take (at + len - at) (drop at src) ≡ take len (drop at src)

@@ -10,15 +10,22 @@ use Rattle.c_lex.specs.declared.tokens.Literal.{Literal}
 use Rattle.c_lex.specs.declared.pieces.Found.{Found}
 use Rattle.c_lex.specs.declared.pieces.Found.TheVariants.{Feed, Blank, Comment, Include, Define, Pragma, Taken}
 use Rattle.c_lex.specs.declared.directives.Along.TheVariants.{Between}
+use Rattle.c_lex.specs.declared.keys.Key.{Key}
+use Rattle.c_lex.specs.declared.signs.Sign.{Sign}
 use Rattle.c_lex.specs.Bytes.{is_gap, is_letter, is_digit, is_name_byte, is_line_byte, AllAre, Begins, Stops}
 use Rattle.c_lex.specs.Defined.{Meanings}
-use Rattle.c_lex.specs.Directives.{IsWord, IsMarkedLine, IsDefine, Agrees, is_line_over}
-use Rattle.c_lex.specs.Words.{is_key, SpellsNumber}
-use Rattle.c_lex.specs.Lexed.{State, Takes, IsLineComment, IsBlockComment, IsText, IsLongestSign, IsName, opens_comment}
-use Rattle.c_lex.specs.Front.{run, text_len, number_of, number_kind, name_kind, word_kind, sign_len, word_at, number_found, number_at, text_found, sign_found, comment_found, slash_at, agrees, bool_eq, starts, value_found, value_at, numbered, define_agreed, define_named, define_at, directive_named, directive_at, other_from, other_at, piece_from, piece_at}
+use Rattle.c_lex.specs.Comments.{IsLineComment, IsBlockComment, opens_comment}
+use Rattle.c_lex.specs.Directives.{IsWord, IsMarkedLine, IsDefine, Agrees}
+use Rattle.c_lex.specs.Spellings.{key_spelling}
+use Rattle.c_lex.specs.Lookups.{is_key, sign_at}
+use Rattle.c_lex.specs.Words.{SpellsNumber}
+use Rattle.c_lex.specs.Lexed.{State, Takes, IsText, IsLongestSign, IsName}
+use Rattle.c_lex.specs.Front.{run, text_len, number_of, number_kind, name_kind, key_or, word_kind, is_line_over, word_at, number_found, number_at, text_found, sign_found, comment_found, slash_at, agrees, bool_eq, starts, value_found, value_at, numbered, define_agreed, define_named, define_at, directive_named, directive_at, other_from, other_at, piece_from, piece_at}
 use Rattle.c_lex.proofs.Runs.{if_true, if_false, bool_cases, run_is, text_is, close_is}
 use Rattle.c_lex.proofs.NumberFacts.{number_spelt}
-use Rattle.c_lex.proofs.SignFacts.{is_clear, sign_clear, sign_is}
+use Rattle.c_lex.proofs.KeyFacts.{key_is, no_key_is, no_key_test}
+use Rattle.c_lex.proofs.LineOver.{over_found}
+use Rattle.c_lex.proofs.SignFacts.{is_clear, sign_clear, sign_some, sign_is}
 
 -- words
 
@@ -78,7 +85,7 @@ module _ (fresh : Bool) (known : Meanings) where
   unfolding piece_at piece_from other_at other_from
   piece_slash cs = refl
 
-  slash_sign : (c : ℕ) (cs : List ℕ) → c ≡ 47 → opens_comment (c ∷ cs) ≡ false → slash_at c cs ≡ sign_found (sign_len (c ∷ cs))
+  slash_sign : (c : ℕ) (cs : List ℕ) → c ≡ 47 → opens_comment (c ∷ cs) ≡ false → slash_at c cs ≡ sign_found (sign_at (c ∷ cs))
   unfolding slash_at
   slash_sign c [] e o = refl
   slash_sign c (d ∷ ds) e o =
@@ -86,7 +93,7 @@ module _ (fresh : Bool) (known : Meanings) where
       let t : nat_eq d 42 ≡ false = grind (arith, nat_tests) in
       if_false _ _ _ s ∙ if_false _ _ _ t
 
-  pub piece_sign : (c : ℕ) (cs : List ℕ) → is_clear c ≡ true → opens_comment (c ∷ cs) ≡ false → piece_at fresh known (c ∷ cs) ≡ sign_found (sign_len (c ∷ cs))
+  pub piece_sign : (c : ℕ) (cs : List ℕ) → is_clear c ≡ true → opens_comment (c ∷ cs) ≡ false → piece_at fresh known (c ∷ cs) ≡ sign_found (sign_at (c ∷ cs))
   unfolding piece_at piece_from other_at other_from
   piece_sign c cs e o =
       let n : nat_eq c 10 ≡ false = grind (arith, nat_tests) in
@@ -96,7 +103,7 @@ module _ (fresh : Bool) (known : Meanings) where
       let q : nat_eq c 34 ≡ false = grind (arith, nat_tests) in
       let h : nat_eq c 35 ≡ false = grind (arith, nat_tests) in
       if_false _ _ _ n ∙ (if_false _ _ _ g ∙ (if_false _ _ _ l ∙ (if_false _ _ _ d ∙ (if_false _ _ _ q ∙ (if_false _ _ _ h
-      ∙ bool_cases (λ b. nat_eq c 47 ≡ b → cond b (slash_at c cs) (sign_found (sign_len (c ∷ cs))) ≡ sign_found (sign_len (c ∷ cs))) (nat_eq c 47) (λ _ s. let is : c ≡ 47 = grind (arith, nat_tests) in slash_sign c cs is o) (λ _ s. refl) refl)))))
+      ∙ bool_cases (λ b. nat_eq c 47 ≡ b → cond b (slash_at c cs) (sign_found (sign_at (c ∷ cs))) ≡ sign_found (sign_at (c ∷ cs))) (nat_eq c 47) (λ _ s. let is : c ≡ 47 = grind (arith, nat_tests) in slash_sign c cs is o) (λ _ s. refl) refl)))))
 
 -- directives
 
@@ -188,7 +195,7 @@ define_is known w rest from len number h cs is =
     ∙ (named known (codes "define") (h.gap ++ tail) (refl, (refl, (refl, (refl, (refl, (refl, tt)))))) h.whole
     ∙ (define_word known (h.gap ++ tail)
     ∙ (define_front known h.gap tail h.gap_blank (begins_gap is_letter letter_gap h.name (h.space ++ (h.digits ++ rest)) h.named.begins)
-    ∙ (named_is known (length h.gap) h.name (h.space ++ (h.digits ++ rest)) number (length h.space + length h.digits) h.named h.no_key (value_is h.space h.digits rest number h.space_blank h.spelt h.spells h.over) h.agrees
+    ∙ (named_is known (length h.gap) h.name (h.space ++ (h.digits ++ rest)) number (length h.space + length h.digits) h.named (no_key_test h.name h.no_key) (value_is h.space h.digits rest number h.space_blank h.spelt h.spells (over_found rest h.over)) h.agrees
     ∙ (ap (λ a. Some (Define a (length h.name) number, 7 + length h.gap + length h.name + (length h.space + length h.digits))) (sym h.begins)
     ∙ (ap (λ a. Some (Define from a number, 7 + length h.gap + length h.name + (length h.space + length h.digits))) (sym h.ends)
     ∙ ap (λ a. Some (Define from len number, a)) (omega (arith, n))))))))
@@ -201,7 +208,7 @@ module _ (s : State) where
   word_front (c ∷ w) rest k h e = piece_word s.fresh s.known c (w ++ rest) h.begins ∙ word_found s.known (c ∷ w) rest k h e
 
   name_front : (w rest : List ℕ) (m : Option Literal) → IsName s.known w rest m → piece_at s.fresh s.known (w ++ rest) ≡ Some (Taken (name_kind m), length w)
-  name_front w rest m h = word_front w rest (name_kind m) h.spelt (if_false _ _ _ h.no_key ∙ ap name_kind h.means)
+  name_front w rest m h = word_front w rest (name_kind m) h.spelt (ap (key_or (name_kind (s.known w))) (no_key_is w h.no_key) ∙ ap name_kind h.means)
 
   number_front : (w rest : List ℕ) (number : Literal) → IsWord is_digit w rest → SpellsNumber w number → piece_at s.fresh s.known (w ++ rest) ≡ Some (Taken (number_kind number), length w)
   number_front [] rest number h n = absurd h.begins
@@ -226,9 +233,12 @@ module _ (s : State) where
       let n : length w ≡ 4 + length h.body = ap length h.is ∙ simp length-append (omega arith) in
       ap (piece_at s.fresh s.known) e ∙ (piece_slash s.fresh s.known (42 ∷ (h.body ++ 42 ∷ 47 ∷ rest)) ∙ (ap (option_map comment_found) (close_is h.body rest h.next) ∙ ap (λ n. Some (Comment, n)) (omega (arith, n))))
 
-  sign_front : (w rest : List ℕ) → IsLongestSign w rest → piece_at s.fresh s.known (w ++ rest) ≡ Some (Taken kind.Sign, length w)
-  sign_front [] rest h = absurd h.sign
-  sign_front (c ∷ w) rest h = piece_sign s.fresh s.known c (w ++ rest) (sign_clear c w h.sign) h.outside ∙ ap sign_found (sign_is (c ∷ w) rest h)
+  key_front : (w rest : List ℕ) (k : Key) → IsWord is_letter w rest → w ≡ key_spelling k → piece_at s.fresh s.known (w ++ rest) ≡ Some (Taken (kind.Key k), length w)
+  key_front w rest k h e = word_front w rest (kind.Key k) h (ap (key_or (name_kind (s.known w))) (key_is w k e))
+
+  sign_front : (w rest : List ℕ) (g : Sign) → IsLongestSign w rest g → piece_at s.fresh s.known (w ++ rest) ≡ Some (Taken (kind.Sign g), length w)
+  sign_front [] rest g h = absurd (sign_some g h.spelt)
+  sign_front (c ∷ w) rest g h = piece_sign s.fresh s.known c (w ++ rest) (sign_clear g c w h.spelt) h.outside ∙ ap sign_found (sign_is (c ∷ w) rest g h)
 
   blank_front : (w rest : List ℕ) (c : ℕ) → w ≡ c ∷ [] → is_gap c ≡ true → piece_at s.fresh s.known (w ++ rest) ≡ Some (Blank, length w)
   blank_front w rest c e g = ap (λ l. piece_at s.fresh s.known (l ++ rest)) e ∙ (piece_blank s.fresh s.known c rest g ∙ ap (λ l. Some (Blank, length l)) (sym e))
@@ -262,9 +272,9 @@ front_is s Include w rest h = include_front s w rest h.0 h.1
 front_is s (Define from len number) w rest h = define_found s w rest from len number h.0 h.1
 front_is s Pragma w rest h = pragma_front s w rest h.0 h.1
 front_is s (Taken kind.Name) w rest h = name_front s w rest None h
-front_is s (Taken kind.Key) w rest h = word_front s w rest kind.Key h.0 (if_true _ _ _ h.1)
+front_is s (Taken (kind.Key k)) w rest h = key_front s w rest k h.0 h.1
 front_is s (Taken (kind.Number v long)) w rest (inl h) = number_front s w rest (record { value = v; long = long }) h.0 h.1
 front_is s (Taken (kind.Number v long)) w rest (inr h) = name_front s w rest (Some (record { value = v; long = long })) h
 front_is s (Taken kind.Text) w rest h = text_front s w rest h
-front_is s (Taken kind.Sign) w rest h = sign_front s w rest h
+front_is s (Taken (kind.Sign g)) w rest h = sign_front s w rest g h
 front_is s (Taken kind.Pragma) w rest h = absurd h

@@ -1,5 +1,7 @@
 pub mod DirectiveSteps
 pub mod Fronts
+pub mod KeyFacts
+pub mod LineOver
 pub mod NumberFacts
 pub mod Ordered
 pub mod PieceSteps

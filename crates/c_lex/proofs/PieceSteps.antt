@@ -6,7 +6,8 @@ use Rattle.std.specs.Option.{option_map}
 use Rattle.c_lex.specs.declared.pieces.Found.TheVariants.{Feed, Blank, Comment, Taken}
 use Rattle.c_lex.specs.Bytes.{is_gap, is_letter, is_digit, is_name_byte, is_line_byte}
 use Rattle.c_lex.specs.Defined.{Meanings}
-use Rattle.c_lex.specs.Front.{run, number_of, number_found, word_kind, word_at, number_at, text_found, text_len, comment_found, close_len, sign_found, sign_len, slash_at, slash_of, directive_at, other_from, other_at, piece_from, piece_at}
+use Rattle.c_lex.specs.Lookups.{sign_at}
+use Rattle.c_lex.specs.Front.{run, number_of, number_found, word_kind, word_at, number_at, text_found, text_len, comment_found, close_len, sign_found, slash_at, slash_of, directive_at, other_from, other_at, piece_from, piece_at}
 use Rattle.c_lex.proofs.DirectiveSteps.{part}
 
 pub word_is : (src : List ℕ) (known : Meanings) (at len : ℕ) → len ≡ run is_name_byte (drop at src) → word_at known (drop at src) ≡ Some (Taken (word_kind known (take (at + len - at) (drop at src))), len)
@@ -23,46 +24,30 @@ module _ (src : List ℕ) (at : ℕ) (inside : at < length src) where
   first : drop at src ≡ get_or src at 0 ∷ drop (at + 1) src
   first = drop_more src at 0 inside
 
-  pub slash_end : length src ≤ at + 1 → slash_of (drop at src) ≡ sign_found (sign_len (drop at src))
+  pub slash_end : length src ≤ at + 1 → slash_of (drop at src) ≡ sign_found (sign_at (drop at src))
   unfolding slash_of slash_at
   slash_end le =
       let e : drop (at + 1) src ≡ [] = drop_all (at + 1) src le in
       let one : drop at src ≡ get_or src at 0 ∷ [] = first ∙ ap (λ l. get_or src at 0 ∷ l) e in
-      ap slash_of one ∙ ap (λ l. sign_found (sign_len l)) (sym one)
+      ap slash_of one ∙ ap (λ l. sign_found (sign_at l)) (sym one)
 
-  pub slash_more : at + 1 < length src → slash_of (drop at src) ≡ cond (nat_eq (get_or src (at + 1) 0) 47) (Some (Comment, 2 + run is_line_byte (drop (at + 2) src))) (cond (nat_eq (get_or src (at + 1) 0) 42) (option_map comment_found (close_len false (drop (at + 2) src))) (sign_found (sign_len (drop at src))))
+  pub slash_more : at + 1 < length src → slash_of (drop at src) ≡ cond (nat_eq (get_or src (at + 1) 0) 47) (Some (Comment, 2 + run is_line_byte (drop (at + 2) src))) (cond (nat_eq (get_or src (at + 1) 0) 42) (option_map comment_found (close_len false (drop (at + 2) src))) (sign_found (sign_at (drop at src))))
   unfolding slash_of slash_at
   slash_more lt =
       let n : at + 1 + 1 ≡ at + 2 = omega arith in
       let e : drop (at + 1) src ≡ get_or src (at + 1) 0 ∷ drop (at + 2) src = drop_more src (at + 1) 0 lt ∙ ap (λ k. get_or src (at + 1) 0 ∷ drop k src) n in
       let two : drop at src ≡ get_or src at 0 ∷ get_or src (at + 1) 0 ∷ drop (at + 2) src = first ∙ ap (λ l. get_or src at 0 ∷ l) e in
-      ap slash_of two ∙ ap (λ l. cond (nat_eq (get_or src (at + 1) 0) 47) (Some (Comment, 2 + run is_line_byte (drop (at + 2) src))) (cond (nat_eq (get_or src (at + 1) 0) 42) (option_map comment_found (close_len false (drop (at + 2) src))) (sign_found (sign_len l)))) (sym two)
+      ap slash_of two ∙ ap (λ l. cond (nat_eq (get_or src (at + 1) 0) 47) (Some (Comment, 2 + run is_line_byte (drop (at + 2) src))) (cond (nat_eq (get_or src (at + 1) 0) 42) (option_map comment_found (close_len false (drop (at + 2) src))) (sign_found (sign_at l)))) (sym two)
 
-  pub other_is : (fresh : Bool) (known : Meanings) → other_at fresh known (drop at src) ≡ cond (nat_eq (get_or src at 0) 34) (option_map text_found (text_len false (drop (at + 1) src))) (cond (nat_eq (get_or src at 0) 35) (cond fresh (directive_at known (drop (at + 1) src)) None) (cond (nat_eq (get_or src at 0) 47) (slash_of (drop at src)) (sign_found (sign_len (drop at src)))))
+  pub other_is : (fresh : Bool) (known : Meanings) → other_at fresh known (drop at src) ≡ cond (nat_eq (get_or src at 0) 34) (option_map text_found (text_len false (drop (at + 1) src))) (cond (nat_eq (get_or src at 0) 35) (cond fresh (directive_at known (drop (at + 1) src)) None) (cond (nat_eq (get_or src at 0) 47) (slash_of (drop at src)) (sign_found (sign_at (drop at src)))))
   unfolding other_at other_from slash_of
   other_is fresh known =
-      ap (other_at fresh known) first ∙ ap (λ l. cond (nat_eq (get_or src at 0) 34) (option_map text_found (text_len false (drop (at + 1) src))) (cond (nat_eq (get_or src at 0) 35) (cond fresh (directive_at known (drop (at + 1) src)) None) (cond (nat_eq (get_or src at 0) 47) (slash_of l) (sign_found (sign_len l))))) (sym first)
+      ap (other_at fresh known) first ∙ ap (λ l. cond (nat_eq (get_or src at 0) 34) (option_map text_found (text_len false (drop (at + 1) src))) (cond (nat_eq (get_or src at 0) 35) (cond fresh (directive_at known (drop (at + 1) src)) None) (cond (nat_eq (get_or src at 0) 47) (slash_of l) (sign_found (sign_at l))))) (sym first)
 
   pub piece_is : (fresh : Bool) (known : Meanings) → piece_at fresh known (drop at src) ≡ cond (nat_eq (get_or src at 0) 10) (Some (Feed, 1)) (cond (is_gap (get_or src at 0)) (Some (Blank, 1)) (cond (is_letter (get_or src at 0)) (word_at known (drop at src)) (cond (is_digit (get_or src at 0)) (number_at (drop at src)) (other_at fresh known (drop at src)))))
   unfolding piece_at piece_from
   piece_is fresh known =
       ap (piece_at fresh known) first ∙ ap (λ l. cond (nat_eq (get_or src at 0) 10) (Some (Feed, 1)) (cond (is_gap (get_or src at 0)) (Some (Blank, 1)) (cond (is_letter (get_or src at 0)) (word_at known l) (cond (is_digit (get_or src at 0)) (number_at l) (other_at fresh known l))))) (sym first)
-
-  pub sign_last : length src ≤ at + 1 → sign_len (drop at src) ≡ sign_len (get_or src at 0 ∷ [])
-  sign_last le = ap sign_len (first ∙ ap (λ l. get_or src at 0 ∷ l) (drop_all (at + 1) src le))
-
-  pub sign_second : length src ≡ at + 2 → sign_len (drop at src) ≡ sign_len (get_or src at 0 ∷ get_or src (at + 1) 0 ∷ [])
-  sign_second e =
-      let rest : drop (at + 1) src ≡ get_or src (at + 1) 0 ∷ [] = drop_more src (at + 1) 0 (omega arith) ∙ ap (λ l. get_or src (at + 1) 0 ∷ l) (drop_all (at + 1 + 1) src (omega arith)) in
-      ap sign_len (first ∙ ap (λ l. get_or src at 0 ∷ l) rest)
-
-  pub sign_third : at + 2 < length src → sign_len (drop at src) ≡ sign_len (get_or src at 0 ∷ get_or src (at + 1) 0 ∷ get_or src (at + 2) 0 ∷ drop (at + 3) src)
-  sign_third lt =
-      let n : at + 1 + 1 ≡ at + 2 = omega arith in
-      let m : at + 2 + 1 ≡ at + 3 = omega arith in
-      let third : drop (at + 2) src ≡ get_or src (at + 2) 0 ∷ drop (at + 3) src = drop_more src (at + 2) 0 lt ∙ ap (λ k. get_or src (at + 2) 0 ∷ drop k src) m in
-      let rest : drop (at + 1) src ≡ get_or src (at + 1) 0 ∷ get_or src (at + 2) 0 ∷ drop (at + 3) src = drop_more src (at + 1) 0 (omega arith) ∙ (ap (λ k. get_or src (at + 1) 0 ∷ drop k src) n ∙ ap (λ l. get_or src (at + 1) 0 ∷ l) third) in
-      ap sign_len (first ∙ ap (λ l. get_or src at 0 ∷ l) rest)
 
 pub yes : (a b : ℕ) → a ≡ b → true ≡ nat_eq a b
 yes a b e = sym (eq-eqb a b e)

@@ -1,5 +1,5 @@
 -- What is found at the front stands there.
-use Rattle.std.proofs.Common.{◌≡◌, ℕ, zero, suc, ◌+◌, ◌<◌, Bool, true, false, cond, not, ◌&&◌, ◌||◌, inl, inr, nat_eq, List, [], ◌∷◌, ◌++◌, length, take, drop, refl, sym, ap, ◌∙◌, subst, arith, append_assoc, length-append, Option, Some, None, codes}
+use Rattle.std.proofs.Common.{◌≡◌, ℕ, suc, ◌+◌, ◌<◌, Bool, true, false, cond, not, ◌&&◌, ◌||◌, inl, inr, nat_eq, List, [], ◌∷◌, ◌++◌, length, take, drop, refl, sym, ap, ◌∙◌, subst, arith, append_assoc, length-append, Option, Some, None, codes}
 use Rattle.std.specs.Option.{option_map}
 use Rattle.std.specs.Ordering.{int_eq}
 use Rattle.std.specs.Str.{bytes_eq}
@@ -11,15 +11,22 @@ use Rattle.c_lex.specs.declared.tokens.Literal.{Literal}
 use Rattle.c_lex.specs.declared.pieces.Found.{Found}
 use Rattle.c_lex.specs.declared.pieces.Found.TheVariants.{Feed, Blank, Comment, Include, Define, Pragma, Taken}
 use Rattle.c_lex.specs.declared.directives.Along.TheVariants.{Between}
+use Rattle.c_lex.specs.declared.keys.Key.{Key}
+use Rattle.c_lex.specs.declared.signs.Sign.{Sign}
 use Rattle.c_lex.specs.Bytes.{is_gap, is_letter, is_digit, is_name_byte, is_line_byte, AllAre, Begins, Stops}
 use Rattle.c_lex.specs.Defined.{Meanings}
-use Rattle.c_lex.specs.Directives.{IsWord, Agrees, is_line_over}
-use Rattle.c_lex.specs.Words.{is_key, SpellsNumber}
-use Rattle.c_lex.specs.Lexed.{State, Takes, NoPiece, opens_comment}
-use Rattle.c_lex.specs.Front.{run, text_len, close_len, number_of, number_kind, name_kind, sign_len, word_at, number_found, number_at, text_found, sign_found, comment_found, slash_at, agrees, bool_eq, starts, value_found, value_at, numbered, define_agreed, define_named, define_at, directive_named, directive_at, other_from, other_at, piece_from, piece_at}
+use Rattle.c_lex.specs.Comments.{opens_comment, IsLineOver}
+use Rattle.c_lex.specs.Directives.{IsWord, Agrees}
+use Rattle.c_lex.specs.Spellings.{sign_spelling, IsNoKey}
+use Rattle.c_lex.specs.Lookups.{key_of, is_key, sign_at}
+use Rattle.c_lex.specs.Words.{SpellsNumber}
+use Rattle.c_lex.specs.Lexed.{State, Takes, NoPiece}
+use Rattle.c_lex.specs.Front.{run, text_len, close_len, number_of, number_kind, name_kind, key_or, is_line_over, word_at, number_found, number_at, text_found, sign_found, comment_found, slash_at, agrees, bool_eq, starts, value_found, value_at, numbered, define_agreed, define_named, define_at, directive_named, directive_at, other_from, other_at, piece_from, piece_at}
 use Rattle.c_lex.proofs.Runs.{if_true, bool_cases, cut, text_ends, close_ends}
 use Rattle.c_lex.proofs.NumberFacts.{spells, spells_begins, map_some}
-use Rattle.c_lex.proofs.SignFacts.{sign_stands, and_parts}
+use Rattle.c_lex.proofs.KeyFacts.{key_spelt, no_key_stands, test_no_key}
+use Rattle.c_lex.proofs.LineOver.{over_stands}
+use Rattle.c_lex.proofs.SignFacts.{sign_stands, sign_some, and_parts}
 use Rattle.c_lex.proofs.Fronts.{front_is}
 
 pub record Stands (s : State) (bytes : List ℕ) (f : Found) (n : ℕ) : Type 0 where
@@ -60,13 +67,15 @@ module _ (s : State) where
       let word : List ℕ = take (run is_name_byte (c ∷ cs)) (c ∷ cs) in
       let rest : List ℕ = drop (run is_name_byte (c ∷ cs)) (c ∷ cs) in
       let made : (k : Kind) → Takes s (Taken k) word rest → Stands s (c ∷ cs) (Taken k) (run is_name_byte (c ∷ cs)) = λ k t. record { word = word; rest = rest; is = h.is; len = h.len; some = w.1; takes = t } in
-      move (bool_cases (λ b. is_key word ≡ b → Stands s (c ∷ cs) (Taken (cond b kind.Key (name_kind (s.known word)))) (run is_name_byte (c ∷ cs))) (is_key word)
-      (λ _ k. made kind.Key (w.0, k))
-      (λ _ k. by_meaning word rest made k w.0 (s.known word) refl) refl) g
+      move (by_key word rest made w.0 (key_of word) refl) g
     where
-      by_meaning : (word rest : List ℕ) → ((k : Kind) → Takes s (Taken k) word rest → Stands s (c ∷ cs) (Taken k) (run is_name_byte (c ∷ cs))) → is_key word ≡ false → IsWord is_letter word rest → (o : Option Literal) → s.known word ≡ o → Stands s (c ∷ cs) (Taken (name_kind o)) (run is_name_byte (c ∷ cs))
+      by_meaning : (word rest : List ℕ) → ((k : Kind) → Takes s (Taken k) word rest → Stands s (c ∷ cs) (Taken k) (run is_name_byte (c ∷ cs))) → IsNoKey word → IsWord is_letter word rest → (o : Option Literal) → s.known word ≡ o → Stands s (c ∷ cs) (Taken (name_kind o)) (run is_name_byte (c ∷ cs))
       by_meaning word rest made k w None m = made kind.Name (record { spelt = w; no_key = k; means = m })
       by_meaning word rest made k w (Some number) m = made (kind.Number number.value number.long) (inr (record { spelt = w; no_key = k; means = m }))
+
+      by_key : (word rest : List ℕ) → ((k : Kind) → Takes s (Taken k) word rest → Stands s (c ∷ cs) (Taken k) (run is_name_byte (c ∷ cs))) → IsWord is_letter word rest → (o : Option Key) → key_of word ≡ o → Stands s (c ∷ cs) (Taken (key_or (name_kind (s.known word)) o)) (run is_name_byte (c ∷ cs))
+      by_key word rest made w None e = by_meaning word rest made (no_key_stands word e) w (s.known word) refl
+      by_key word rest made w (Some k) e = made (kind.Key k) (w, key_spelt word k e)
 
   stands_number : (c : ℕ) (cs : List ℕ) (f : Found) (n : ℕ) → is_digit c ≡ true → number_at (c ∷ cs) ≡ Some (f, n) → Stands s (c ∷ cs) f n
   unfolding number_at
@@ -92,11 +101,25 @@ module _ (s : State) where
       } in
       move stands (ap (λ (x : Found × ℕ). Some x) m.2)
 
-  stands_sign : (c : ℕ) (cs : List ℕ) (f : Found) (n : ℕ) → opens_comment (c ∷ cs) ≡ false → (m : ℕ) → sign_len (c ∷ cs) ≡ m → sign_found m ≡ Some (f, n) → Stands s (c ∷ cs) f n
-  stands_sign c cs f n o zero e g = cc
-  stands_sign c cs f n o (suc m) e g =
-      let t = sign_stands (c ∷ cs) m e in
-      move (record { word = t.word; rest = t.rest; is = t.is; len = t.len; some = omega arith; takes = record { sign = t.sign; outside = subst (λ l. opens_comment l ≡ false) t.is o; longest = λ other behind is h. t.longest other behind (t.is ∙ is) h } }) g
+  stands_sign : (c : ℕ) (cs : List ℕ) (f : Found) (n : ℕ) → opens_comment (c ∷ cs) ≡ false → (o : Option (Sign × ℕ)) → sign_at (c ∷ cs) ≡ o → sign_found o ≡ Some (f, n) → Stands s (c ∷ cs) f n
+  stands_sign c cs f n outside None e g = cc
+  stands_sign c cs f n outside (Some (sign, m)) e g =
+      let t = sign_stands (c ∷ cs) sign m e in
+      move (record {
+        word = sign_spelling sign;
+        rest = t.rest;
+        is = t.is;
+        len = t.len;
+        some = not_empty sign t.rest t.is t.len;
+        takes = record { spelt = refl; outside = subst (λ l. opens_comment l ≡ false) t.is outside; longest = λ other behind is. t.longest other behind (t.is ∙ is) };
+      }) g
+    where
+      not_empty : (sign : Sign) (rest : List ℕ) {m : ℕ} → c ∷ cs ≡ sign_spelling sign ++ rest → length (sign_spelling sign) ≡ m → 0 < m
+      not_empty sign rest {m} is len = some_left (sign_spelling sign) refl
+        where
+          some_left : (w : List ℕ) → sign_spelling sign ≡ w → 0 < m
+          some_left [] q = absurd (sign_some sign (sym q))
+          some_left (d ∷ w) q = omega (arith, ap length q, len)
 
   stands_line : (c : ℕ) (ds : List ℕ) → c ≡ 47 → (d : ℕ) → d ≡ 47 → Stands s (c ∷ d ∷ ds) Comment (2 + run is_line_byte ds)
   stands_line c ds e d g =
@@ -124,12 +147,12 @@ module _ (s : State) where
 
   stands_slash : (c : ℕ) (cs : List ℕ) (f : Found) (n : ℕ) → c ≡ 47 → slash_at c cs ≡ Some (f, n) → Stands s (c ∷ cs) f n
   unfolding slash_at
-  stands_slash c [] f n e g = stands_sign c [] f n refl (sign_len (c ∷ [])) refl g
-  stands_slash c (d ∷ ds) f n e g = bool_cases (λ b. nat_eq d 47 ≡ b → cond b (Some (Comment, 2 + run is_line_byte ds)) (cond (nat_eq d 42) (option_map comment_found (close_len false ds)) (sign_found (sign_len (c ∷ d ∷ ds)))) ≡ Some (f, n) → Stands s (c ∷ d ∷ ds) f n) (nat_eq d 47)
+  stands_slash c [] f n e g = stands_sign c [] f n refl (sign_at (c ∷ [])) refl g
+  stands_slash c (d ∷ ds) f n e g = bool_cases (λ b. nat_eq d 47 ≡ b → cond b (Some (Comment, 2 + run is_line_byte ds)) (cond (nat_eq d 42) (option_map comment_found (close_len false ds)) (sign_found (sign_at (c ∷ d ∷ ds)))) ≡ Some (f, n) → Stands s (c ∷ d ∷ ds) f n) (nat_eq d 47)
       (λ _ t h. let q : d ≡ 47 = grind (arith, nat_tests) in move (stands_line c ds e d q) h)
-      (λ _ t h. bool_cases (λ b. nat_eq d 42 ≡ b → cond b (option_map comment_found (close_len false ds)) (sign_found (sign_len (c ∷ d ∷ ds))) ≡ Some (f, n) → Stands s (c ∷ d ∷ ds) f n) (nat_eq d 42)
+      (λ _ t h. bool_cases (λ b. nat_eq d 42 ≡ b → cond b (option_map comment_found (close_len false ds)) (sign_found (sign_at (c ∷ d ∷ ds))) ≡ Some (f, n) → Stands s (c ∷ d ∷ ds) f n) (nat_eq d 42)
       (λ _ u i. let q : d ≡ 42 = grind (arith, nat_tests) in let m = map_some comment_found (close_len false ds) (f, n) i in move (stands_block c ds e d q m.0 m.1) (ap (λ (x : Found × ℕ). Some x) m.2))
-      (λ _ u i. let o : (nat_eq c 47 && (nat_eq d 47 || nat_eq d 42)) ≡ false = ap (λ b. nat_eq c 47 && (b || nat_eq d 42)) t ∙ (ap (λ b. nat_eq c 47 && b) u ∙ and_false (nat_eq c 47)) in stands_sign c (d ∷ ds) f n o (sign_len (c ∷ d ∷ ds)) refl i)
+      (λ _ u i. let o : (nat_eq c 47 && (nat_eq d 47 || nat_eq d 42)) ≡ false = ap (λ b. nat_eq c 47 && (b || nat_eq d 42)) t ∙ (ap (λ b. nat_eq c 47 && b) u ∙ and_false (nat_eq c 47)) in stands_sign c (d ∷ ds) f n o (sign_at (c ∷ d ∷ ds)) refl i)
       refl h)
       refl g
     where
@@ -161,7 +184,7 @@ record Value (bytes : List ℕ) (number : Literal) (k : ℕ) : Type 0 where
   blank : AllAre is_gap space
   spelt : IsWord is_digit digits rest
   spells : SpellsNumber digits number
-  over : is_line_over Between rest ≡ true
+  over : IsLineOver rest
   len : length space + length digits ≡ k
 
 value_stands : (space rest : List ℕ) (n : ℕ) → length space ≡ n → AllAre is_gap space → (number : Literal) (k : ℕ) → value_at n rest ≡ Some (number, k) → Value (space ++ rest) number k
@@ -175,7 +198,7 @@ value_stands space rest n len blank number k e =
     let same : m.0 ≡ number = ap (λ (x : Literal × ℕ). x.0) m.2 in
     let size : n + run is_name_byte rest ≡ k = ap (λ (x : Literal × ℕ). x.1) m.2 in
     let sp : SpellsNumber word number = subst (SpellsNumber word) same (spells word m.0 m.1) in
-    record { space = space; digits = word; rest = drop (run is_name_byte rest) rest; is = ap (λ l. space ++ l) h.is; blank = blank; spelt = record { begins = spells_begins word number sp; all = h.all; stops = h.stops }; spells = sp; over = over; len = omega (arith, len, h.len, size) })
+    record { space = space; digits = word; rest = drop (run is_name_byte rest) rest; is = ap (λ l. space ++ l) h.is; blank = blank; spelt = record { begins = spells_begins word number sp; all = h.all; stops = h.stops }; spells = sp; over = over_stands _ over; len = omega (arith, len, h.len, size) })
     (λ _ over g. cc) refl e
 
 numbered_stands : (bytes : List ℕ) (number : Literal) (k : ℕ) → numbered bytes ≡ Some (number, k) → Value bytes number k
@@ -234,7 +257,7 @@ module _ (s : State) (fresh : s.fresh ≡ true) where
             gap_blank = blank;
             whole = subst (λ l. Stops is_name_byte (gap ++ l)) tail whole;
             named = subst (IsWord is_letter name) v.is w.0;
-            no_key = not_is (is_key name) parts.1;
+            no_key = test_no_key name (not_is (is_key name) parts.1);
             space_blank = v.blank;
             spelt = v.spelt;
             spells = v.spells;
@@ -310,13 +333,13 @@ module _ (s : State) where
   stands_other : (c : ℕ) (cs : List ℕ) (f : Found) (n : ℕ) → other_at s.fresh s.known (c ∷ cs) ≡ Some (f, n) → Stands s (c ∷ cs) f n
   unfolding other_at other_from
   stands_other c cs f n e =
-      bool_cases (λ b. nat_eq c 34 ≡ b → cond b (option_map text_found (text_len false cs)) (cond (nat_eq c 35) (cond s.fresh (directive_at s.known cs) None) (cond (nat_eq c 47) (slash_at c cs) (sign_found (sign_len (c ∷ cs))))) ≡ Some (f, n) → Stands s (c ∷ cs) f n) (nat_eq c 34)
+      bool_cases (λ b. nat_eq c 34 ≡ b → cond b (option_map text_found (text_len false cs)) (cond (nat_eq c 35) (cond s.fresh (directive_at s.known cs) None) (cond (nat_eq c 47) (slash_at c cs) (sign_found (sign_at (c ∷ cs))))) ≡ Some (f, n) → Stands s (c ∷ cs) f n) (nat_eq c 34)
       (λ _ t g. let q : c ≡ 34 = grind (arith, nat_tests) in stands_text s c cs f n q g)
-      (λ _ t g. bool_cases (λ b. nat_eq c 35 ≡ b → cond b (cond s.fresh (directive_at s.known cs) None) (cond (nat_eq c 47) (slash_at c cs) (sign_found (sign_len (c ∷ cs)))) ≡ Some (f, n) → Stands s (c ∷ cs) f n) (nat_eq c 35)
+      (λ _ t g. bool_cases (λ b. nat_eq c 35 ≡ b → cond b (cond s.fresh (directive_at s.known cs) None) (cond (nat_eq c 47) (slash_at c cs) (sign_found (sign_at (c ∷ cs)))) ≡ Some (f, n) → Stands s (c ∷ cs) f n) (nat_eq c 35)
       (λ _ u h. let q : c ≡ 35 = grind (arith, nat_tests) in stands_hash c cs f n q h)
-      (λ _ u h. bool_cases (λ b. nat_eq c 47 ≡ b → cond b (slash_at c cs) (sign_found (sign_len (c ∷ cs))) ≡ Some (f, n) → Stands s (c ∷ cs) f n) (nat_eq c 47)
+      (λ _ u h. bool_cases (λ b. nat_eq c 47 ≡ b → cond b (slash_at c cs) (sign_found (sign_at (c ∷ cs))) ≡ Some (f, n) → Stands s (c ∷ cs) f n) (nat_eq c 47)
       (λ _ v i. let q : c ≡ 47 = grind (arith, nat_tests) in stands_slash s c cs f n q i)
-      (λ _ v i. stands_sign s c cs f n (no_opening c cs v) (sign_len (c ∷ cs)) refl i)
+      (λ _ v i. stands_sign s c cs f n (no_opening c cs v) (sign_at (c ∷ cs)) refl i)
       refl h)
       refl g)
       refl e

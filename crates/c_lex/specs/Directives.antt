@@ -1,10 +1,10 @@
 -- The directives, each on a line of its own.
-use Rattle.std.specs.Prelude.{◌≡◌, ℕ, ◌+◌, Bool, true, false, ◌&&◌, cond, List, [], ◌∷◌, ◌++◌, length, Option, Some, None, nat_eq, codes}
+use Rattle.std.specs.Prelude.{◌≡◌, ℕ, ◌+◌, Bool, List, ◌++◌, length, Option, Some, None, codes}
 use Rattle.c_lex.specs.declared.tokens.Literal.{Literal}
-use Rattle.c_lex.specs.declared.directives.Along.{Along}
-use Rattle.c_lex.specs.declared.directives.Along.TheVariants.{Between, Slash, Inside}
 use Rattle.c_lex.specs.Bytes.{is_gap, is_letter, is_digit, is_name_byte, is_line_byte, AllAre, Begins, Stops}
-use Rattle.c_lex.specs.Words.{is_key, SpellsNumber}
+use Rattle.c_lex.specs.Comments.{IsLineOver}
+use Rattle.c_lex.specs.Spellings.{IsNoKey}
+use Rattle.c_lex.specs.Words.{SpellsNumber}
 use Rattle.c_lex.specs.Defined.{Meanings}
 
 -- a word of letters, digits and underscores, as long as it can be, that begins with such a byte
@@ -12,15 +12,6 @@ pub record IsWord (first : ℕ → Bool) (word rest : List ℕ) : Type 0 where
   pub begins : Begins first word
   pub all : AllAre is_name_byte word
   pub stops : Stops is_name_byte rest
-
--- nothing but blanks and comments stands up to the line's end; a comment may run over it
-abbrev pub is_line_over : Along → List ℕ → Bool
-is_line_over Between [] = true
-is_line_over Between (c ∷ cs) = cond (nat_eq c 10) true (cond (is_gap c) (is_line_over Between cs) (cond (nat_eq c 47) (is_line_over Slash cs) false))
-is_line_over Slash [] = false
-is_line_over Slash (c ∷ cs) = cond (nat_eq c 47) true (cond (nat_eq c 42) (is_line_over (Inside false) cs) false)
-is_line_over (Inside star) [] = true
-is_line_over (Inside star) (c ∷ cs) = cond (nat_eq c 10) true (cond (star && nat_eq c 47) (is_line_over Between cs) (is_line_over (Inside (nat_eq c 42)) cs))
 
 -- a mark, and then the rest of the line
 pub record IsMarkedLine (mark word rest : List ℕ) : Type 0 where
@@ -45,11 +36,11 @@ pub record IsDefine (known : Meanings) (word rest : List ℕ) (from len : ℕ) (
   pub gap_blank : AllAre is_gap gap
   pub whole : Stops is_name_byte (gap ++ (name ++ (space ++ (digits ++ rest))))
   pub named : IsWord is_letter name (space ++ (digits ++ rest))
-  pub no_key : is_key name ≡ false
+  pub no_key : IsNoKey name
   pub space_blank : AllAre is_gap space
   pub spelt : IsWord is_digit digits rest
   pub spells : SpellsNumber digits number
   pub agrees : Agrees (known name) number
-  pub over : is_line_over Between rest ≡ true
+  pub over : IsLineOver rest
   pub begins : from ≡ 7 + length gap
   pub ends : len ≡ length name

@@ -1,5 +1,5 @@
 -- What stands at the front of some bytes, worked out from the left: the piece and its length.
-use Rattle.std.specs.Prelude.{ℕ, zero, suc, ◌+◌, ◌-◌, ◌*◌, Bool, true, false, cond, not, ◌&&◌, ◌||◌, List, [], ◌∷◌, length, take, drop, Option, Some, None, nat_eq, nat_lt, nat_le, pos, codes, slice_index}
+use Rattle.std.specs.Prelude.{ℕ, suc, ◌+◌, ◌-◌, ◌*◌, Bool, true, false, cond, not, ◌&&◌, ◌||◌, List, [], ◌∷◌, length, take, drop, Option, Some, None, nat_eq, nat_lt, nat_le, pos, codes, slice_index}
 use Rattle.std.specs.Ordering.{int_eq}
 use Rattle.std.specs.Option.{option_map}
 use Rattle.std.specs.Str.{bytes_eq}
@@ -10,10 +10,12 @@ use Rattle.c_lex.specs.declared.pieces.Found.{Found}
 use Rattle.c_lex.specs.declared.pieces.Found.TheVariants.{Feed, Blank, Comment, Include, Define, Pragma, Taken}
 use Rattle.c_lex.specs.Bytes.{is_gap, is_letter, is_digit, is_hex, is_name_byte, is_line_byte, is_plain, is_escape}
 use Rattle.c_lex.specs.Defined.{Meanings}
-use Rattle.c_lex.specs.declared.directives.Along.TheVariants.{Between}
-use Rattle.c_lex.specs.Directives.{is_line_over}
-use Rattle.c_lex.specs.Signs.{is_one, is_two, is_three}
-use Rattle.c_lex.specs.Words.{is_key, has_leading_zero, is_suffix, digit_worth, hex_worth}
+use Rattle.c_lex.specs.declared.directives.Along.{Along}
+use Rattle.c_lex.specs.declared.directives.Along.TheVariants.{Between, Slash, Inside}
+use Rattle.c_lex.specs.declared.keys.Key.{Key}
+use Rattle.c_lex.specs.declared.signs.Sign.{Sign}
+use Rattle.c_lex.specs.Lookups.{key_of, is_key, sign_at}
+use Rattle.c_lex.specs.Words.{has_leading_zero, is_suffix, digit_worth, hex_worth}
 
 -- how many bytes at the front pass the test
 abbrev pub run : (ℕ → Bool) → List ℕ → ℕ
@@ -77,15 +79,13 @@ abbrev pub name_kind : Option Literal → Kind
 name_kind None = kind.Name
 name_kind (Some n) = number_kind n
 
-abbrev pub word_kind : Meanings → List ℕ → Kind
-word_kind known word = cond (is_key word) kind.Key (name_kind (known word))
+-- a key, or what else the word is
+abbrev pub key_or : Kind → Option Key → Kind
+key_or other None = other
+key_or other (Some key) = kind.Key key
 
--- how long the longest sign at the front is
-abbrev pub sign_len : List ℕ → ℕ
-sign_len [] = 0
-sign_len (c ∷ []) = cond (is_one c) 1 0
-sign_len (c ∷ d ∷ []) = cond (is_two c d) 2 (cond (is_one c) 1 0)
-sign_len (c ∷ d ∷ e ∷ cs) = cond (is_three c d e) 3 (cond (is_two c d) 2 (cond (is_one c) 1 0))
+abbrev pub word_kind : Meanings → List ℕ → Kind
+word_kind known word = key_or (name_kind (known word)) (key_of word)
 
 unfoldable pub word_at : Meanings → List ℕ → Option (Found × ℕ)
 word_at known bytes = Some (Taken (word_kind known (take (run is_name_byte bytes) bytes)), run is_name_byte bytes)
@@ -99,20 +99,22 @@ number_at bytes = option_map (number_found (run is_name_byte bytes)) (number_of 
 abbrev pub text_found : ℕ → Found × ℕ
 text_found n = (Taken kind.Text, suc n)
 
-abbrev pub sign_found : ℕ → Option (Found × ℕ)
-sign_found zero = None
-sign_found (suc n) = Some (Taken kind.Sign, suc n)
+abbrev pub sign_taken : Sign × ℕ → Found × ℕ
+sign_taken p = (Taken (kind.Sign p.0), p.1)
+
+abbrev pub sign_found : Option (Sign × ℕ) → Option (Found × ℕ)
+sign_found o = option_map sign_taken o
 
 abbrev pub comment_found : ℕ → Found × ℕ
 comment_found n = (Comment, 2 + n)
 
 -- a comment or a sign, whose slash is given
 unfoldable pub slash_at : ℕ → List ℕ → Option (Found × ℕ)
-slash_at c [] = sign_found (sign_len (c ∷ []))
+slash_at c [] = sign_found (sign_at (c ∷ []))
 slash_at c (d ∷ ds) =
     cond (nat_eq d 47) (Some (Comment, 2 + run is_line_byte ds))
     (cond (nat_eq d 42) (option_map comment_found (close_len false ds))
-    (sign_found (sign_len (c ∷ d ∷ ds))))
+    (sign_found (sign_at (c ∷ d ∷ ds))))
 
 abbrev pub bool_eq : Bool → Bool → Bool
 bool_eq true b = b
@@ -129,6 +131,15 @@ starts p (c ∷ cs) = p c
 
 abbrev pub value_found : ℕ → Literal → Literal × ℕ
 value_found n number = (number, n)
+
+-- the line is over behind blanks and comments, of which the last may run over its end
+abbrev pub is_line_over : Along → List ℕ → Bool
+is_line_over Between [] = true
+is_line_over Between (c ∷ cs) = cond (nat_eq c 10) true (cond (is_gap c) (is_line_over Between cs) (cond (nat_eq c 47) (is_line_over Slash cs) false))
+is_line_over Slash [] = false
+is_line_over Slash (c ∷ cs) = cond (nat_eq c 47) true (cond (nat_eq c 42) (is_line_over (Inside false) cs) false)
+is_line_over (Inside star) [] = true
+is_line_over (Inside star) (c ∷ cs) = cond (nat_eq c 10) true (cond (star && nat_eq c 47) (is_line_over Between cs) (is_line_over (Inside (nat_eq c 42)) cs))
 
 -- blanks and a number, behind which the line is over, and their length
 unfoldable pub value_at : ℕ → List ℕ → Option (Literal × ℕ)
@@ -173,7 +184,7 @@ unfoldable pub other_from : Bool → Meanings → ℕ → List ℕ → Option (F
 other_from fresh known c cs =
     cond (nat_eq c 34) (option_map text_found (text_len false cs))
     (cond (nat_eq c 35) (cond fresh (directive_at known cs) None)
-    (cond (nat_eq c 47) (slash_at c cs) (sign_found (sign_len (c ∷ cs)))))
+    (cond (nat_eq c 47) (slash_at c cs) (sign_found (sign_at (c ∷ cs)))))
 
 unfoldable pub other_at : Bool → Meanings → List ℕ → Option (Found × ℕ)
 other_at fresh known [] = None

@@ -1,5 +1,5 @@
 -- Which tokens a source has: its pieces from left to right, each as long as the rules allow.
-use Rattle.std.specs.Prelude.{◌≡◌, ℕ, ◌≤◌, Bool, true, false, ◌&&◌, ◌||◌, ◌⊎◌, List, [], ◌∷◌, ◌++◌, length, take, drop, Option, Some, None, nat_eq, codes}
+use Rattle.std.specs.Prelude.{◌≡◌, ℕ, ◌≤◌, Bool, true, false, ◌⊎◌, List, [], ◌∷◌, ◌++◌, length, take, drop, Option, Some, None, codes}
 use Rattle.c_lex.specs.declared.tokens.Token.{Token}
 use Rattle.c_lex.specs.declared.tokens.Literal.{Literal}
 use Rattle.c_lex.specs.declared.tokens.Kind.{Kind}
@@ -8,25 +8,14 @@ use Rattle.c_lex.specs.declared.tokens.LexRefusal.{LexRefusal}
 use Rattle.c_lex.specs.declared.places.Place.{Place}
 use Rattle.c_lex.specs.declared.pieces.Found.{Found}
 use Rattle.c_lex.specs.declared.pieces.Found.TheVariants.{Feed, Blank, Comment, Include, Define, Pragma, Taken}
-use Rattle.c_lex.specs.Bytes.{is_gap, is_letter, is_digit, is_line_byte, AllAre, Stops}
+use Rattle.c_lex.specs.declared.signs.Sign.{Sign}
+use Rattle.c_lex.specs.Bytes.{is_gap, is_letter, is_digit}
+use Rattle.c_lex.specs.Comments.{IsLineComment, IsBlockComment, opens_comment}
 use Rattle.c_lex.specs.Defined.{Meanings, empty, with_name}
 use Rattle.c_lex.specs.Directives.{IsWord, IsMarkedLine, IsDefine}
 use Rattle.c_lex.specs.Places.{behind, start}
-use Rattle.c_lex.specs.Signs.{IsSign}
-use Rattle.c_lex.specs.Words.{is_key, SpellsNumber, TextBody}
-
--- // and the rest of the line
-pub record IsLineComment (word rest : List ℕ) : Type 0 where
-  pub line : List ℕ
-  pub is : word ≡ 47 ∷ 47 ∷ line
-  pub all : AllAre is_line_byte line
-  pub stops : Stops is_line_byte rest
-
--- from /* to the next */
-pub record IsBlockComment (word : List ℕ) : Type 0 where
-  pub body : List ℕ
-  pub is : word ≡ 47 ∷ 42 ∷ (body ++ 42 ∷ 47 ∷ [])
-  pub next : (a b : List ℕ) → body ++ 42 ∷ [] ≡ a ++ 42 ∷ 47 ∷ b → ⊥
+use Rattle.c_lex.specs.Spellings.{key_spelling, sign_spelling, IsNoKey}
+use Rattle.c_lex.specs.Words.{SpellsNumber, TextBody}
 
 -- a text from quote to quote
 pub record IsText (word : List ℕ) : Type 0 where
@@ -34,22 +23,16 @@ pub record IsText (word : List ℕ) : Type 0 where
   pub is : word ≡ 34 ∷ (body ++ 34 ∷ [])
   pub holds : TextBody body
 
--- a comment begins here
-abbrev pub opens_comment : List ℕ → Bool
-opens_comment [] = false
-opens_comment (c ∷ []) = false
-opens_comment (c ∷ d ∷ cs) = nat_eq c 47 && (nat_eq d 47 || nat_eq d 42)
-
 -- a sign that opens no comment, and no longer sign stands here
-pub record IsLongestSign (word rest : List ℕ) : Type 0 where
-  pub sign : IsSign word
+pub record IsLongestSign (word rest : List ℕ) (sign : Sign) : Type 0 where
+  pub spelt : word ≡ sign_spelling sign
   pub outside : opens_comment (word ++ rest) ≡ false
-  pub longest : (other behind : List ℕ) → word ++ rest ≡ other ++ behind → IsSign other → length other ≤ length word
+  pub longest : (other : Sign) (behind : List ℕ) → word ++ rest ≡ sign_spelling other ++ behind → length (sign_spelling other) ≤ length word
 
 -- a name that is no key, and what it stands for where it is defined
 pub record IsName (known : Meanings) (word rest : List ℕ) (meaning : Option Literal) : Type 0 where
   pub spelt : IsWord is_letter word rest
-  pub no_key : is_key word ≡ false
+  pub no_key : IsNoKey word
   pub means : known word ≡ meaning
 
 -- where the lexer stands: the place, whether only blanks stand before it in its line, and what names stand for
@@ -70,11 +53,11 @@ Takes s Include w rest = (s.fresh ≡ true) × IsMarkedLine (codes "#include") w
 Takes s (Define from len number) w rest = (s.fresh ≡ true) × IsDefine s.known w rest from len number
 Takes s Pragma w rest = (s.fresh ≡ true) × IsMarkedLine (codes "#pragma") w rest
 Takes s (Taken kind.Name) w rest = IsName s.known w rest None
-Takes s (Taken kind.Key) w rest = IsWord is_letter w rest × (is_key w ≡ true)
+Takes s (Taken (kind.Key key)) w rest = IsWord is_letter w rest × (w ≡ key_spelling key)
 Takes s (Taken (kind.Number v long)) w rest =
     (IsWord is_digit w rest × SpellsNumber w (record { value = v; long = long })) ⊎ IsName s.known w rest (Some (record { value = v; long = long }))
 Takes s (Taken kind.Text) w rest = IsText w
-Takes s (Taken kind.Sign) w rest = IsLongestSign w rest
+Takes s (Taken (kind.Sign sign)) w rest = IsLongestSign w rest sign
 Takes s (Taken kind.Pragma) w rest = ⊥
 
 -- no piece begins here

@@ -1,11 +1,14 @@
 pub mod Bytes
 pub mod Classes
+pub mod Comments
 pub mod Defined
 pub mod Directives
 pub mod Front
+pub mod Laws
 pub mod Lexed
+pub mod Lookups
 pub mod Places
-pub mod Signs
 pub mod Spans
+pub mod Spellings
 pub mod Stops
 pub mod Words

@@ -1,23 +1,7 @@
--- Words of a source: the keys, what a number spells, what a text holds.
-use Rattle.std.specs.Prelude.{◌≡◌, ℕ, suc, ◌+◌, ◌-◌, ◌*◌, ◌≤◌, Bool, true, false, ◌||◌, cond, List, [], ◌∷◌, ◌++◌, nat_eq, nat_le, nat_lt, codes, pos, ◌⊎◌}
-use Rattle.std.specs.List.{list_any}
-use Rattle.std.specs.Str.{bytes_eq}
+-- What a number spells, and what a text holds.
+use Rattle.std.specs.Prelude.{◌≡◌, ℕ, suc, ◌+◌, ◌-◌, ◌*◌, ◌≤◌, Bool, true, false, ◌||◌, cond, List, [], ◌∷◌, ◌++◌, nat_eq, nat_le, nat_lt, pos, ◌⊎◌}
 use Rattle.c_lex.specs.declared.tokens.Literal.{Literal}
 use Rattle.c_lex.specs.Bytes.{is_digit, is_hex, is_plain, is_escape, AllAre, Begins}
-
--- all key words of C99, and the three types of MPI
-unfoldable pub keys : List (List ℕ)
-keys =
-    codes "int" ∷ codes "long" ∷ codes "void" ∷ codes "char" ∷ codes "static" ∷ codes "if" ∷ codes "else" ∷ codes "while"
-    ∷ codes "do" ∷ codes "for" ∷ codes "return" ∷ codes "break" ∷ codes "continue" ∷ codes "sizeof"
-    ∷ codes "MPI_Comm" ∷ codes "MPI_Request" ∷ codes "MPI_Status"
-    ∷ codes "auto" ∷ codes "case" ∷ codes "const" ∷ codes "default" ∷ codes "double" ∷ codes "enum" ∷ codes "extern"
-    ∷ codes "float" ∷ codes "goto" ∷ codes "inline" ∷ codes "register" ∷ codes "restrict" ∷ codes "short" ∷ codes "signed"
-    ∷ codes "struct" ∷ codes "switch" ∷ codes "typedef" ∷ codes "union" ∷ codes "unsigned" ∷ codes "volatile"
-    ∷ codes "_Bool" ∷ codes "_Complex" ∷ codes "_Imaginary" ∷ []
-
-unfoldable pub is_key : List ℕ → Bool
-is_key word = list_any (λ key. bytes_eq key word) keys
 
 -- what a digit of a hexadecimal number is worth
 abbrev pub hex_worth : ℕ → ℕ

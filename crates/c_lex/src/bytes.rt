@@ -2,7 +2,6 @@
 ghost use Rattle.std.specs.Prelude.{◌≡◌, ◌+◌, ◌≤◌, length, drop};
 ghost use Rattle.c_lex.specs.Bytes.{is_gap as gap, is_letter as letter, is_digit as digit, is_hex as hex, is_name_byte as name_byte, is_plain as plain, is_escape as escape};
 ghost use Rattle.c_lex.specs.Classes.{passes};
-ghost use Rattle.c_lex.specs.Signs.{is_in};
 ghost use Rattle.c_lex.specs.Front.{run as run_of};
 
 /// Bytes that make up a run.
@@ -70,18 +69,6 @@ pub fn is_escape(byte: u8) -> bool
     ensures { result ≡ escape byte }
 {
     byte == b'n' || byte == b't' || byte == b'\\' || byte == b'"'
-}
-
-/// Whether the byte is one of these.
-pub fn is_one_of(bytes: &[u8], byte: u8) -> bool
-    ensures { result ≡ is_in bytes.now byte }
-{
-    for other in bytes {
-        if *other == byte {
-            return true;
-        }
-    }
-    false
 }
 
 /// How many bytes of the class stand from here on.

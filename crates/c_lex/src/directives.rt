@@ -2,16 +2,17 @@
 ghost use Rattle.std.specs.Prelude.{◌≡◌, ◌+◌, ◌≤◌, ◌&&◌, not, length, take, drop, IfSome};
 ghost use Rattle.c_lex.specs.declared.directives.Along.TheVariants.{Between};
 ghost use Rattle.c_lex.specs.Defined.{meanings};
-ghost use Rattle.c_lex.specs.Directives.{is_line_over as line_over};
-ghost use Rattle.c_lex.specs.Front.{agrees as may_be, numbered as numbered_at, define_agreed, define_named as named_at, define_at, directive_named as directive_of, directive_at, starts};
+ghost use Rattle.c_lex.specs.Front.{is_line_over as line_over, agrees as may_be, numbered as numbered_at, define_agreed, define_named as named_at, define_at, directive_named as directive_of, directive_at, starts};
 ghost use Rattle.c_lex.specs.Bytes.{is_letter as letter};
-ghost use Rattle.c_lex.specs.Words.{is_key as key_test};
+ghost use Rattle.c_lex.specs.Lookups.{is_key as key_test};
+ghost use Rattle.mpc_values.specs.declared.limits.TheConstants.{MAX_SOURCE_BYTES};
 
 use crate::bytes::{Class, is_gap, is_letter, run};
 use crate::defines::Defines;
+use crate::keys::is_key;
 use crate::pieces::Found;
 use crate::tokens::Literal;
-use crate::words::{is_key, is_word, number};
+use crate::words::{is_word, number};
 
 /// Where a walk along a line stands.
 #[derive(Clone, Copy, Debug, PartialEq, Eq)]
@@ -124,9 +125,9 @@ fn agreed(
     len: usize,
     value: Option<(Literal, usize)>,
 ) -> Option<(Found, usize)>
-    requires gap { gap ≤ 1048576 }
-    requires len { len ≤ 1048576 }
-    requires rest { IfSome value (λ v. v.1 ≤ 1048576) }
+    requires gap { gap ≤ MAX_SOURCE_BYTES }
+    requires len { len ≤ MAX_SOURCE_BYTES }
+    requires rest { IfSome value (λ v. v.1 ≤ MAX_SOURCE_BYTES) }
     ensures { result ≡ define_agreed (meanings defines.now.numbers) gap name.now len value }
 {
     let (number, rest) = value?;
@@ -146,7 +147,7 @@ fn agreed(
 fn define_named(src: &[u8], at: usize, gap: usize, defines: &Defines) -> Option<(Found, usize)>
     requires room { at ≤ length src.now }
     requires small { gap ≤ length src.now }
-    requires short { length src.now ≤ 1048576 }
+    requires short { length src.now ≤ MAX_SOURCE_BYTES }
     ensures { result ≡ named_at (meanings defines.now.numbers) gap (drop at src.now) }
 {
     let len = run(Class::NameByte, src, at);
@@ -165,7 +166,7 @@ fn define_named(src: &[u8], at: usize, gap: usize, defines: &Defines) -> Option<
 // The definition behind its directive's word.
 fn define_piece(src: &[u8], at: usize, defines: &Defines) -> Option<(Found, usize)>
     requires room { at ≤ length src.now }
-    requires short { length src.now ≤ 1048576 }
+    requires short { length src.now ≤ MAX_SOURCE_BYTES }
     ensures { result ≡ define_at (meanings defines.now.numbers) (drop at src.now) }
 {
     let gap = run(Class::Gap, src, at);
@@ -175,7 +176,7 @@ fn define_piece(src: &[u8], at: usize, defines: &Defines) -> Option<(Found, usiz
 // The directive of this word, which stands here.
 fn directive_named(src: &[u8], at: usize, word: &[u8], defines: &Defines) -> Option<(Found, usize)>
     requires room { at + length word.now ≤ length src.now }
-    requires short { length src.now ≤ 1048576 }
+    requires short { length src.now ≤ MAX_SOURCE_BYTES }
     ensures { result ≡ directive_of (meanings defines.now.numbers) word.now (drop at src.now) }
 {
     if is_word(word, "include") {
@@ -192,7 +193,7 @@ fn directive_named(src: &[u8], at: usize, word: &[u8], defines: &Defines) -> Opt
 /// The directive whose # stands before this place, and its length with the #.
 pub fn directive_piece(src: &[u8], at: usize, defines: &Defines) -> Option<(Found, usize)>
     requires room { at ≤ length src.now }
-    requires short { length src.now ≤ 1048576 }
+    requires short { length src.now ≤ MAX_SOURCE_BYTES }
     ensures { result ≡ directive_at (meanings defines.now.numbers) (drop at src.now) }
 {
     let len = run(Class::NameByte, src, at);

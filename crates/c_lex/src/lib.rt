@@ -5,6 +5,8 @@
 mod bytes;
 mod defines;
 mod directives;
+mod keys;
+mod laws;
 mod pieces;
 mod places;
 mod scan;
@@ -12,7 +14,10 @@ mod signs;
 mod tokens;
 mod words;
 
+pub use keys::Key;
+pub use laws::lexing_laws;
 pub use scan::lex;
+pub use signs::Sign;
 pub use tokens::{Kind, LexRefusal, Token};
 
 #[cfg(test)]

@@ -2,14 +2,17 @@
 ghost use Rattle.std.specs.Prelude.{◌≡◌, ◌+◌, ◌<◌, ◌≤◌, false, length, drop, IfSome};
 ghost use Rattle.std.specs.Option.{option_map};
 ghost use Rattle.c_lex.specs.Defined.{meanings};
-ghost use Rattle.c_lex.specs.Front.{text_len as text_length, close_len as close_length, sign_len as sign_length, text_found, comment_found, sign_found, slash_of, word_at, number_at, other_at, piece_at, number_kind as kind_of_number, word_kind as kind_of_word};
+ghost use Rattle.c_lex.specs.Lookups.{sign_at as sign_front};
+ghost use Rattle.mpc_values.specs.declared.limits.TheConstants.{MAX_SOURCE_BYTES};
+ghost use Rattle.c_lex.specs.Front.{text_len as text_length, close_len as close_length, text_found, comment_found, sign_found, slash_of, word_at, number_at, other_at, piece_at, number_kind as kind_of_number, word_kind as kind_of_word};
 
 use crate::bytes::{Class, is_digit, is_escape, is_gap, is_letter, is_plain, run};
 use crate::defines::Defines;
 use crate::directives::directive_piece;
-use crate::signs::sign_len;
+use crate::keys::key_of;
+use crate::signs::sign_at;
 use crate::tokens::{Kind, Literal};
-use crate::words::{is_key, number};
+use crate::words::number;
 
 /// A piece of the source.
 #[derive(Clone, Copy, Debug, PartialEq, Eq)]
@@ -43,8 +46,8 @@ fn number_kind(number: Literal) -> Kind
 fn word_kind(word: &[u8], defines: &Defines) -> Kind
     ensures { result ≡ kind_of_word (meanings defines.now.numbers) word.now }
 {
-    if is_key(word) {
-        return Kind::Key;
+    if let Some(key) = key_of(word) {
+        return Kind::Key(key);
     }
     match defines.find(word) {
         None => Kind::Name,
@@ -145,11 +148,11 @@ fn comment_piece(src: &[u8], from: usize) -> Option<(Found, usize)>
 // The sign that stands here.
 fn sign_piece(src: &[u8], at: usize) -> Option<(Found, usize)>
     requires { at < length src.now }
-    ensures { result ≡ sign_found (sign_length (drop at src.now)) }
+    ensures { result ≡ sign_found (sign_front (drop at src.now)) }
 {
-    match sign_len(src, at) {
-        0 => None,
-        len => Some((Found::Taken(Kind::Sign), len)),
+    match sign_at(&src[at..]) {
+        None => None,
+        Some((sign, len)) => Some((Found::Taken(Kind::Sign(sign)), len)),
     }
 }
 
@@ -174,7 +177,7 @@ fn slash_piece(src: &[u8], at: usize) -> Option<(Found, usize)>
 // The piece that stands here and begins with this byte, where it is no blank and no word.
 fn other_piece(src: &[u8], at: usize, fresh: bool, defines: &Defines) -> Option<(Found, usize)>
     requires room { at < length src.now }
-    requires short { length src.now ≤ 1048576 }
+    requires short { length src.now ≤ MAX_SOURCE_BYTES }
     ensures { result ≡ other_at fresh (meanings defines.now.numbers) (drop at src.now) }
 {
     let first = src[at];
@@ -198,7 +201,7 @@ fn other_piece(src: &[u8], at: usize, fresh: bool, defines: &Defines) -> Option<
 /// only where only blanks stand before it in its line.
 pub fn piece(src: &[u8], at: usize, fresh: bool, defines: &Defines) -> Option<(Found, usize)>
     requires room { at < length src.now }
-    requires short { length src.now ≤ 1048576 }
+    requires short { length src.now ≤ MAX_SOURCE_BYTES }
     ensures { result ≡ piece_at fresh (meanings defines.now.numbers) (drop at src.now) }
 {
     let first = src[at];

@@ -1,6 +1,7 @@
 //! Places of the source, by byte, line and column.
 ghost use Rattle.std.specs.Prelude.{◌≡◌, ◌+◌, ◌≤◌, length, take, drop};
 ghost use Rattle.c_lex.specs.Places.{behind as place_behind};
+ghost use Rattle.mpc_values.specs.declared.limits.TheConstants.{MAX_SOURCE_BYTES};
 
 /// A place of the source: how many bytes stand before it, its line and its column.
 #[derive(Clone, Copy, Debug, PartialEq, Eq)]
@@ -13,7 +14,7 @@ pub struct Place {
 /// The place behind so many bytes.
 pub fn behind(src: &[u8], place: Place, len: usize) -> Place
     requires within { place.at + len ≤ length src.now }
-    requires small { length src.now ≤ 1048576 }
+    requires small { length src.now ≤ MAX_SOURCE_BYTES }
     requires line { place.line ≤ place.at + 1 }
     requires col { place.col ≤ place.at + 1 }
     ensures { result ≡ place_behind place (take len (drop place.at src.now)) }

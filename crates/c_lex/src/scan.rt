@@ -1,5 +1,7 @@
 //! The tokens of a source.
 ghost use Rattle.std.specs.Prelude.{◌≡◌, ◌+◌, ◌≤◌, List, length, IfOk, IfErr, OnOk, MatchResult};
+ghost use Rattle.mpc_values.specs.declared.limits.TheConstants.{MAX_SOURCE_BYTES};
+ghost use Rattle.c_lex.specs.declared.tokens.LexRefusal.{LexRefusal as Refusal};
 ghost use Rattle.c_lex.specs.declared.tokens.Token.{Token};
 ghost use Rattle.c_lex.specs.Defined.{meanings};
 ghost use Rattle.c_lex.specs.Lexed.{fresh_behind as fresh_after, Lexed, RefusedAt};
@@ -22,8 +24,8 @@ enum Stop {
 
 // Adds the token of a piece, where it gives one. That of a pragma begins behind its mark.
 fn keep(tokens: &mut Vec<Token>, place: Place, found: Found, len: usize) -> Result<(), Memory>
-    requires at { place.at ≤ 1048576 }
-    requires col { place.col ≤ 1048577 }
+    requires at { place.at ≤ MAX_SOURCE_BYTES }
+    requires col { place.col ≤ MAX_SOURCE_BYTES + 1 }
     requires mark { found ≡ Found.Pragma → 7 ≤ len }
     ensures { OnOk result (tokens.new.items ≡ kept tokens.old.items place found len) }
 {
@@ -80,7 +82,7 @@ fn fresh_behind(fresh: bool, found: Found) -> bool
 }
 
 fn tokens_of(alloc: Global, src: &[u8]) -> Result<Vec<Token>, Stop>
-    requires { length src.now ≤ 1048576 }
+    requires { length src.now ≤ MAX_SOURCE_BYTES }
     ensures tokens { IfOk result (λ v. Lexed src.now v.items) }
     ensures refused { IfErr result (EndsAs src.now) }
 {
@@ -117,15 +119,18 @@ fn tokens_of(alloc: Global, src: &[u8]) -> Result<Vec<Token>, Stop>
 /// blanks, comments, `#include` and `#define` give none. Refused at the first byte at which no
 /// piece of the source begins. An error stands for want of memory.
 pub fn lex(alloc: Global, src: &[u8]) -> Result<Result<Vec<Token>, LexRefusal>, Memory>
-    requires { length src.now ≤ 1048576 }
+    requires { length src.now ≤ MAX_SOURCE_BYTES }
     ensures tokens { IfOk result (λ r. IfOk r (λ v. Lexed src.now v.items)) }
     ensures refused { IfOk result (λ r. IfErr r (λ at. RefusedAt src.now at)) }
     ensures spans { IfOk result (λ r. IfOk r (λ v. InOrder 0 (length src.now) v.items)) }
 
-    // A source has at most one list of tokens, and none where it is refused.
-    ensures only { IfOk result (λ r. MatchResult r
+    // A source has at most one list of tokens or one refusal, and never both.
+    ensures only_tokens { IfOk result (λ r. MatchResult r
         (λ v. (ts : List Token) → Lexed src.now ts → ts ≡ v.items)
         (λ _. (ts : List Token) → Lexed src.now ts → ⊥)) }
+    ensures only_refusal { IfOk result (λ r. MatchResult r
+        (λ _. (q : Refusal) → RefusedAt src.now q → ⊥)
+        (λ at. (q : Refusal) → RefusedAt src.now q → q ≡ at)) }
 {
     match tokens_of(alloc, src) {
         Ok(tokens) => Ok(Ok(tokens)),

@@ -1,51 +1,120 @@
 //! The signs, of one to three bytes.
-ghost use Rattle.std.specs.Prelude.{◌≡◌, ◌+◌, ◌<◌, ◌≤◌, length, drop};
-ghost use Rattle.c_lex.specs.Signs.{is_one as one, is_two as two, is_three as three};
-ghost use Rattle.c_lex.specs.Front.{sign_len as sign_length};
+ghost use Rattle.std.specs.Prelude.{◌≡◌, map};
+ghost use Rattle.c_lex.specs.Lookups.{row_of, first_sign, sign_at as sign_found};
 
-use crate::bytes::is_one_of;
-
-const ONES: &[u8] = b"()[]{};,.?:+-*/%&|^~!<>=";
-
-const DOUBLED: &[u8] = b"+-&|<>";
-
-const ENDED_BY_EQUALS: &[u8] = b"=!<>+-*/%&|^";
-
-const SHIFTS: &[u8] = b"<>";
-
-#[tactic(auto, unfolding(crate::specs::Signs::is_one))]
-fn is_one(first: u8) -> bool
-    ensures { result ≡ one first }
-{
-    is_one_of(ONES, first)
+/// A sign, named after its glyph where it has several meanings, and after its meaning elsewhere
+/// (C99, section 6.4.6).
+#[derive(Clone, Copy, Debug, PartialEq, Eq)]
+pub enum Sign {
+    OpenParenthesis,
+    CloseParenthesis,
+    OpenBracket,
+    CloseBracket,
+    OpenBrace,
+    CloseBrace,
+    Semicolon,
+    Comma,
+    Dot,
+    Question,
+    Colon,
+    Plus,
+    Minus,
+    Star,
+    Slash,
+    Percent,
+    Ampersand,
+    Bar,
+    Caret,
+    Tilde,
+    Exclamation,
+    Less,
+    Greater,
+    Assign,
+    Increment,
+    Decrement,
+    LogicalAnd,
+    LogicalOr,
+    Equal,
+    NotEqual,
+    LessEqual,
+    GreaterEqual,
+    ShiftLeft,
+    ShiftRight,
+    AddAssign,
+    SubtractAssign,
+    MultiplyAssign,
+    DivideAssign,
+    RemainderAssign,
+    AndAssign,
+    OrAssign,
+    XorAssign,
+    ShiftLeftAssign,
+    ShiftRightAssign,
 }
 
-#[tactic(auto, unfolding(crate::specs::Signs::is_two))]
-fn is_two(first: u8, second: u8) -> bool
-    ensures { result ≡ two first second }
-{
-    (first == second && is_one_of(DOUBLED, first))
-        || (second == b'=' && is_one_of(ENDED_BY_EQUALS, first))
-}
+// The longer signs come first.
+const SIGNS: [(&str, Sign); 44] = [
+    ("<<=", Sign::ShiftLeftAssign),
+    (">>=", Sign::ShiftRightAssign),
+    ("++", Sign::Increment),
+    ("--", Sign::Decrement),
+    ("&&", Sign::LogicalAnd),
+    ("||", Sign::LogicalOr),
+    ("==", Sign::Equal),
+    ("!=", Sign::NotEqual),
+    ("<=", Sign::LessEqual),
+    (">=", Sign::GreaterEqual),
+    ("<<", Sign::ShiftLeft),
+    (">>", Sign::ShiftRight),
+    ("+=", Sign::AddAssign),
+    ("-=", Sign::SubtractAssign),
+    ("*=", Sign::MultiplyAssign),
+    ("/=", Sign::DivideAssign),
+    ("%=", Sign::RemainderAssign),
+    ("&=", Sign::AndAssign),
+    ("|=", Sign::OrAssign),
+    ("^=", Sign::XorAssign),
+    ("(", Sign::OpenParenthesis),
+    (")", Sign::CloseParenthesis),
+    ("[", Sign::OpenBracket),
+    ("]", Sign::CloseBracket),
+    ("{", Sign::OpenBrace),
+    ("}", Sign::CloseBrace),
+    (";", Sign::Semicolon),
+    (",", Sign::Comma),
+    (".", Sign::Dot),
+    ("?", Sign::Question),
+    (":", Sign::Colon),
+    ("+", Sign::Plus),
+    ("-", Sign::Minus),
+    ("*", Sign::Star),
+    ("/", Sign::Slash),
+    ("%", Sign::Percent),
+    ("&", Sign::Ampersand),
+    ("|", Sign::Bar),
+    ("^", Sign::Caret),
+    ("~", Sign::Tilde),
+    ("!", Sign::Exclamation),
+    ("<", Sign::Less),
+    (">", Sign::Greater),
+    ("=", Sign::Assign),
+];
 
-#[tactic(auto, unfolding(crate::specs::Signs::is_three))]
-fn is_three(first: u8, second: u8, third: u8) -> bool
-    ensures { result ≡ three first second third }
+// The first of some signs that the bytes begin with, and its length.
+fn sign_among(signs: &[(&str, Sign)], bytes: &[u8]) -> Option<(Sign, usize)>
+    ensures { result ≡ first_sign (map row_of signs.now) bytes.now }
 {
-    first == second && third == b'=' && is_one_of(SHIFTS, first)
-}
-
-/// How long the longest sign is that stands here, or 0.
-pub fn sign_len(src: &[u8], at: usize) -> usize
-    requires { at < length src.now }
-    ensures { result ≡ sign_length (drop at src.now) }
-{
-    let first = src[at];
-    if at + 2 < src.len() && is_three(first, src[at + 1], src[at + 2]) {
-        return 3;
+    for (text, sign) in signs {
+        if bytes.starts_with(text.as_bytes()) {
+            return Some((*sign, text.len()));
+        }
     }
-    if at + 1 < src.len() && is_two(first, src[at + 1]) {
-        return 2;
-    }
-    if is_one(first) { 1 } else { 0 }
+    None
+}
+
+/// The longest sign that the bytes begin with, and its length.
+pub fn sign_at(bytes: &[u8]) -> Option<(Sign, usize)>
+    ensures { result ≡ sign_found bytes.now }
+{
+    sign_among(&SIGNS, bytes)
 }

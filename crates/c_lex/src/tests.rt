@@ -1,13 +1,14 @@
 //! Sources and their tokens, worked out by hand from the lexical rules.
-use crate::{Kind, Token, lex};
+use crate::{Key, Kind, Sign, Token, lex, lexing_laws};
 use mpc_values::Memory;
+use mpc_values::limits::MAX_SOURCE_BYTES;
 use std::alloc::Global;
 use std::test::Fail;
 
 // Where the source is refused.
 fn refusal(alloc: Global, src: &str) -> Result<Option<(u32, u32)>, Memory> {
     let src = src.as_bytes();
-    if src.len() > 1_048_576 {
+    if src.len() > MAX_SOURCE_BYTES {
         return Ok(None);
     }
     match lex(alloc, src)? {
@@ -19,7 +20,7 @@ fn refusal(alloc: Global, src: &str) -> Result<Option<(u32, u32)>, Memory> {
 // The tokens of the source, none where it is refused.
 fn tokens(alloc: Global, src: &str) -> Result<Vec<Token>, Memory> {
     let src = src.as_bytes();
-    if src.len() > 1_048_576 {
+    if src.len() > MAX_SOURCE_BYTES {
         return Ok(Vec::new(alloc));
     }
     match lex(alloc, src)? {
@@ -103,9 +104,9 @@ fn each_refused_directive_at_its_hash(rt: HostRuntime) -> Result<(), Fail> {
 #[test]
 fn each_kind_of_token(rt: HostRuntime) -> Result<(), Fail> {
     let cases = [
-        ("int", Kind::Key),
-        ("_Imaginary", Kind::Key),
-        ("MPI_Status", Kind::Key),
+        ("int", Kind::Key(Key::Int)),
+        ("_Imaginary", Kind::Key(Key::Imaginary)),
+        ("MPI_Status", Kind::Key(Key::Status)),
         ("Int", Kind::Name),
         ("_a1", Kind::Name),
         ("0", number(0, false)),
@@ -118,10 +119,10 @@ fn each_kind_of_token(rt: HostRuntime) -> Result<(), Fail> {
         ("0x80000000", number(2147483648, true)),
         ("0xFFl", number(255, true)),
         ("\"a\\n\\t\\\\\\\"\"", Kind::Text),
-        ("<<=", Kind::Sign),
-        (">>=", Kind::Sign),
-        ("!=", Kind::Sign),
-        ("~", Kind::Sign),
+        ("<<=", Kind::Sign(Sign::ShiftLeftAssign)),
+        (">>=", Kind::Sign(Sign::ShiftRightAssign)),
+        ("!=", Kind::Sign(Sign::NotEqual)),
+        ("~", Kind::Sign(Sign::Tilde)),
     ];
     for (src, kind) in cases {
         let found = tokens(rt.alloc(), src)?;
@@ -130,6 +131,7 @@ fn each_kind_of_token(rt: HostRuntime) -> Result<(), Fail> {
             [token(kind, 0, src.len(), 1, 1)].as_slice()
         );
     }
+    lexing_laws();
     Ok(())
 }
 
@@ -138,8 +140,8 @@ fn the_longest_sign_is_taken(rt: HostRuntime) -> Result<(), Fail> {
     let found = tokens(rt.alloc(), "a+++b")?;
     let wanted = [
         token(Kind::Name, 0, 1, 1, 1),
-        token(Kind::Sign, 1, 2, 1, 2),
-        token(Kind::Sign, 3, 1, 1, 4),
+        token(Kind::Sign(Sign::Increment), 1, 2, 1, 2),
+        token(Kind::Sign(Sign::Plus), 3, 1, 1, 4),
         token(Kind::Name, 4, 1, 1, 5),
     ];
     assert_eq!(rt; found.as_slice(), wanted.as_slice());
@@ -171,7 +173,7 @@ fn a_define_holds_behind_its_line(rt: HostRuntime) -> Result<(), Fail> {
     let found = tokens(rt.alloc(), "#define A 4 /* x\n y */ int")?;
     assert_eq!(rt;
         found.as_slice(),
-        [token(Kind::Key, 23, 3, 2, 7)].as_slice()
+        [token(Kind::Key(Key::Int), 23, 3, 2, 7)].as_slice()
     );
     Ok(())
 }

@@ -1,15 +1,17 @@
 //! Tokens, and the place at which a source is refused.
+use crate::keys::Key;
+use crate::signs::Sign;
 
 /// What a token is.
 #[derive(Clone, Copy, Debug, PartialEq, Eq)]
 pub enum Kind {
     Name,
-    Key,
+    Key(Key),
     /// A number from 0 to the greatest value of 64 signed bits; it is a long where it has the
     /// suffix, or is too large for an int.
     Number { value: i64, long: bool },
     Text,
-    Sign,
+    Sign(Sign),
     /// What stands behind `#pragma` in its line.
     Pragma,
 }

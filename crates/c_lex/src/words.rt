@@ -1,56 +1,12 @@
-//! What a word is: a key, a name, or the number that it spells.
+//! What a word spells: a directive's word, or a number.
 ghost use Rattle.std.specs.Prelude.{◌≡◌, ◌≤◌, true, length, IfSome};
-ghost use Rattle.std.specs.List.{list_any};
 ghost use Rattle.std.specs.Str.{bytes_eq};
 ghost use Rattle.c_lex.specs.Bytes.{is_digit as digit, is_hex as hex};
-ghost use Rattle.c_lex.specs.Words.{is_key as key_test, digit_worth, hex_worth as worth_of_hex};
+ghost use Rattle.c_lex.specs.Words.{digit_worth, hex_worth as worth_of_hex};
 ghost use Rattle.c_lex.specs.Front.{numeral_from, decimal_of, hexadecimal_of, is_marked as marked, numeral_of, is_suffixed as suffixed, number_of};
 
 use crate::bytes::{is_digit, is_hex};
 use crate::tokens::Literal;
-
-const KEYS: [&str; 40] = [
-    "int",
-    "long",
-    "void",
-    "char",
-    "static",
-    "if",
-    "else",
-    "while",
-    "do",
-    "for",
-    "return",
-    "break",
-    "continue",
-    "sizeof",
-    "MPI_Comm",
-    "MPI_Request",
-    "MPI_Status",
-    "auto",
-    "case",
-    "const",
-    "default",
-    "double",
-    "enum",
-    "extern",
-    "float",
-    "goto",
-    "inline",
-    "register",
-    "restrict",
-    "short",
-    "signed",
-    "struct",
-    "switch",
-    "typedef",
-    "union",
-    "unsigned",
-    "volatile",
-    "_Bool",
-    "_Complex",
-    "_Imaginary",
-];
 
 const LONG_MAX: u64 = 9223372036854775807;
 
@@ -61,24 +17,6 @@ pub fn is_word(word: &[u8], other: &str) -> bool
     ensures { result ≡ bytes_eq word.now other.now }
 {
     word == other.as_bytes()
-}
-
-// Whether the word is one of these.
-fn is_among(words: &[&str], word: &[u8]) -> bool
-    ensures { result ≡ list_any (λ w. bytes_eq w.now word.now) words.now }
-{
-    for other in words {
-        if other.as_bytes() == word {
-            return true;
-        }
-    }
-    false
-}
-
-pub fn is_key(word: &[u8]) -> bool
-    ensures { result ≡ key_test word.now }
-{
-    is_among(&KEYS, word)
 }
 
 fn decimal_digits(word: &[u8]) -> Option<u64>

@@ -1,6 +1,6 @@
 use Rattle.std.proofs.Common.{length, ◌-◌, ◌≡◌, ◌≤◌, drop}
 use Rattle.c_lex.specs.declared.directives.Along.TheVariants.{Between}
-use Rattle.c_lex.specs.Directives.{is_line_over}
+use Rattle.c_lex.specs.Front.{is_line_over}
 use Rattle.c_lex.proofs.directives.is_line_over.Given as goal
 
 abbrev pub invariant-loop-at : goal.invariant-loop-at
