@@ -19,6 +19,7 @@ use Rattle.c_parse.specs.Expressions as ex
 use Rattle.c_parse.specs.Declarations as dc
 use Rattle.c_parse.specs.Grammar.{mark_, name_}
 use Rattle.c_parse.specs.DeclarationGrammar as dg
+use Rattle.c_parse.specs.Grammar as gr
 use Rattle.c_parse.proofs.ClassTests.{in_mark, in_key, in_equals, EQUALS, in_stars, STARS, BASES}
 use Rattle.c_parse.proofs.Exact.{Exact, give_exact, take_one}
 use Rattle.c_parse.proofs.Choices.{widen, by_reader, by_phrase, placed_exact, same_sym, or_group}
@@ -41,31 +42,31 @@ if_same : {A : Type 0} (b : Bool) (o o' q : Read A) → o ≡ o' → (if b then 
 if_same true o o' q e = e
 if_same false o o' q e = refl
 
-len_exact : (d : ℕ) (pointer : Bool) → Exact (dg.len_of d pointer) (dc.len_of d pointer) (32 ∷ []) (λ _. 32 ∷ []) false
+len_exact : (d : ℕ) (pointer : Bool) → Exact ((dg.len_of gr.expression) d pointer) (dc.len_of d pointer) (32 ∷ []) (λ _. 32 ∷ []) false
 unfolding dg.len_of dc.len_of dc.begins_length sees
 len_exact d true = widen (32 ∷ []) (λ _. 32 ∷ []) (by_reader _ (give_exact None) (λ ts. eaten false ts (dc.len_in d >>= (λ value. pure (Some value))) (pure None))) refl (λ _. refl)
 len_exact d false = by_reader _ (branch_exact (is_mark mark.OpenSquare) (32 ∷ []) (λ _. 32 ∷ []) (in_mark mark.OpenSquare) refl refl
     (seq (expression_exact d part.Cond) (λ len. token_then (mark_exact mark.CloseSquare) (λ _. give_exact (Some len))) refl) (give_exact None) refl (λ _. refl) (λ _. refl) (λ _ _ _. refl))
     (λ ts. eaten (is_mark mark.OpenSquare (class_at ts)) ts (dc.len_in d >>= (λ value. pure (Some value))) (pure None) ∙ if_same (is_mark mark.OpenSquare (class_at ts)) _ _ _ (len_in_is d (behind ts)))
 
-value_exact : (d : ℕ) → Exact (dg.value d) (dc.value d) (34 ∷ EXPR) (λ _. after part.Assign) true
+value_exact : (d : ℕ) → Exact ((dg.value gr.expression) d) (dc.value d) (34 ∷ EXPR) (λ _. after part.Assign) true
 unfolding dg.value dc.value dc.values sees
 value_exact d = by_reader _ (branch_exact (is_mark mark.OpenBrace) (34 ∷ []) (λ _. after part.Assign) (in_mark mark.OpenBrace) refl refl
     (seq (separated_exact (expression_exact d part.Assign) refl) (λ found. token_then (mark_exact mark.CloseBrace) (λ _. give_exact (x.Values found))) refl)
     (map_same (λ found. x.Value found) (expression_exact d part.Assign)) refl (λ _. refl) (λ _. refl) (λ e. cc))
     (λ ts. eaten (is_mark mark.OpenBrace (class_at ts)) ts _ _)
 
-initializer_exact : (d : ℕ) → Exact (dg.initializer d) (dc.initializer d) (9 ∷ []) (λ _. after part.Assign) false
+initializer_exact : (d : ℕ) → Exact ((dg.initializer gr.expression) d) (dc.initializer d) (9 ∷ []) (λ _. after part.Assign) false
 unfolding dg.initializer dc.initializer dc.sees_equals
 initializer_exact d = by_reader _ (branch_exact is_equals EQUALS (λ _. after part.Assign) in_equals refl refl (value_exact d) (give_exact x.Nothing) refl (λ _. refl) (λ _. refl) (λ _ _ _. refl))
     (λ ts. eaten (is_equals (class_at ts)) ts (dc.value d) (pure x.Nothing))
 
-pub declared_exact : (d : ℕ) (at : Place) (pointer : Bool) (called : List ℕ) → Exact (dg.declared d at pointer called) (dc.declared d at pointer called) (32 ∷ 9 ∷ []) (λ _. after part.Assign) false
+pub declared_exact : (d : ℕ) (at : Place) (pointer : Bool) (called : List ℕ) → Exact ((dg.declared gr.expression) d at pointer called) (dc.declared d at pointer called) (32 ∷ 9 ∷ []) (λ _. after part.Assign) false
 unfolding dg.declared dc.declared
 declared_exact d at pointer called = widen (32 ∷ 9 ∷ []) (λ _. after part.Assign)
     (maybe_both (len_exact d pointer) (λ len. map_same (λ start. record { at = at; pointer = pointer; name = called; len = len; initializer = start }) (initializer_exact d)) refl) refl (λ _. refl)
 
-pub declarator_exact : (d : ℕ) (base : Base) → Exact (dg.declarator d base) (dc.declarator d base) (50 ∷ 0 ∷ []) (λ _. after part.Assign) true
+pub declarator_exact : (d : ℕ) (base : Base) → Exact ((dg.declarator gr.expression) d base) (dc.declarator d base) (50 ∷ 0 ∷ []) (λ _. after part.Assign) true
 unfolding dg.declarator dc.declarator
 declarator_exact d base = placed_exact _ _ (50 ∷ 0 ∷ []) (λ _. after part.Assign) (λ at.
     maybe_seq (star_exact base) (λ pointer. token_then name_exact (λ called. declared_exact d at pointer called)) refl)
@@ -83,11 +84,11 @@ unfolding dc.declaration_from rd.separated
 declaration_is d at ts = then_same (eat_key key.Static ts) (λ is_static us. then_same (ex.type_base us) (λ base vs.
     sym (regroup_read (dc.declarator d base vs) (λ first. rd.repeat no_comma (rd.one_more (dc.declarator d base)) (first ∷ [])) (λ found. expect mark.Semicolon >>= (λ _. pure (record { at = at; is_static = is_static; base = base; declarators = found }))))))
 
-pub declaration_at_exact : (d : ℕ) (at : Place) → Exact (dg.declaration_at d at) (parted_read d at) (14 ∷ BASES) (λ _. []) true
+pub declaration_at_exact : (d : ℕ) (at : Place) → Exact ((dg.declaration_at gr.expression) d at) (parted_read d at) (14 ∷ BASES) (λ _. []) true
 unfolding dg.declaration_at
 declaration_at_exact d at = by_reader _ (maybe_seq (flag_key_exact key.Static refl) (λ is_static. seq type_base_exact (λ base. seq (separated_exact (declarator_exact d base) refl) (λ found. token_then (mark_exact mark.Semicolon) (λ _. give_exact _)) refl) refl) refl) (declaration_is d at)
 
-pub declaration_exact : (d : ℕ) → Exact (dg.declaration d) (dc.declaration d) (14 ∷ BASES) (λ _. []) true
+pub declaration_exact : (d : ℕ) → Exact ((dg.declaration gr.expression) d) (dc.declaration d) (14 ∷ BASES) (λ _. []) true
 unfolding dg.declaration dc.declaration
 declaration_exact d = placed_exact _ (parted_read d) (14 ∷ BASES) (λ _. []) (declaration_at_exact d)
 

@@ -3,6 +3,7 @@ use Rattle.std.proofs.Common.{◌≡◌, ℕ, zero, suc, ◌<◌, ◌≤◌, ari
 use Rattle.c_tree.specs.declared.syntax.Place.{Place}
 use Rattle.c_tree.specs.declared.syntax.Binary.{Binary}
 use Rattle.c_tree.specs.declared.syntax.Binary.TheVariants as binary
+use Rattle.mpc_values.specs.declared.limits.TheConstants.{MAX_EXPRESSION_TOKENS}
 use Rattle.c_tree.specs.Syntax as x
 use Rattle.c_parse.specs.declared.symbols.Class.{Class}
 use Rattle.c_parse.specs.declared.symbols.Class.TheVariants as class
@@ -202,4 +203,4 @@ expr_exact (suc d) q = production_exact (gr.production (gr.nest d)) (ex.reading 
 
 pub expression_exact : (d : ℕ) (q : Part) → Exact (gr.expression d q) (ex.expression d q) EXPR (λ _. after q) true
 unfolding gr.expression ex.expression
-expression_exact d q = at_most_exact 1024 (gr.expr d q) (ex.expr d q) EXPR (λ _. after q) (expr_exact d q)
+expression_exact d q = at_most_exact MAX_EXPRESSION_TOKENS (gr.expr d q) (ex.expr d q) EXPR (λ _. after q) (expr_exact d q)

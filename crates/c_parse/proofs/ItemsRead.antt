@@ -38,12 +38,12 @@ use Rattle.c_parse.proofs.StatementsRead.{block_exact}
 
 -- ---- functions
 
-definition_exact : Exact sc.definition so.definition (36 ∷ 34 ∷ []) (λ _. []) true
+definition_exact : Exact (sc.definition gr.expression) so.definition (36 ∷ 34 ∷ []) (λ _. []) true
 unfolding sc.definition so.definition sees
 definition_exact = by_reader _ (branch_exact (is_mark mark.Semicolon) (36 ∷ []) (λ _. []) (in_mark mark.Semicolon) refl refl (give_exact None) (map_same (λ found. Some found) (block_exact most_deep)) refl (λ _. refl) (λ _. refl) (λ e. cc))
     (λ ts. eaten (is_mark mark.Semicolon (class_at ts)) ts _ _)
 
-function_exact : (at : Place) (is_static : Bool) (returns : Returns) (called : List ℕ) → Exact (sc.function_of at is_static returns called) (so.function at is_static returns called) (30 ∷ []) (λ _. []) true
+function_exact : (at : Place) (is_static : Bool) (returns : Returns) (called : List ℕ) → Exact ((sc.function_of gr.expression) at is_static returns called) (so.function at is_static returns called) (30 ∷ []) (λ _. []) true
 unfolding sc.function_of so.function
 function_exact at is_static returns called = token_then (mark_exact mark.Open) (λ _. seq params_exact (λ listed. map_same (λ found. x.Defined (record { at = at; is_static = is_static; returns = returns; name = called; params = listed; body = found })) definition_exact) refl)
 
@@ -53,10 +53,10 @@ abbrev variables_of : Place → Bool → Base → List x.Declarator → x.Item
 variables_of at is_static base found = x.Variables (record { at = at; is_static = is_static; base = base; declarators = found })
 
 abbrev more_ : Place → Bool → Base → x.Declarator → Phrase x.Item
-more_ at is_static base first = ph.◌>>=◌ (ph.repeat (gr.one_more (dg.declarator most_deep base)) (first ∷ [])) (λ found. ph.◌>>◌ (mark_ mark.Semicolon) (give (variables_of at is_static base found)))
+more_ at is_static base first = ph.◌>>=◌ (ph.repeat (gr.one_more ((dg.declarator gr.expression) most_deep base)) (first ∷ [])) (λ found. ph.◌>>◌ (mark_ mark.Semicolon) (give (variables_of at is_static base found)))
 
 abbrev variables_ : Place → Bool → Base → Place → Bool → List ℕ → Phrase x.Item
-variables_ at is_static base from pointer called = ph.◌>>=◌ (dg.declared most_deep from pointer called) (more_ at is_static base)
+variables_ at is_static base from pointer called = ph.◌>>=◌ ((dg.declared gr.expression) most_deep from pointer called) (more_ at is_static base)
 
 abbrev more_read : Place → Bool → Base → x.Declarator → Reader x.Item
 more_read at is_static base first = rd.repeat no_comma (rd.one_more (dc.declarator most_deep base)) (first ∷ []) >>= (λ found. expect mark.Semicolon >>= (λ _. pure (variables_of at is_static base found)))
@@ -76,7 +76,7 @@ variables_exact at is_static base from pointer called = by_reader _
 
 abbrev typed_ : Place → Bool → Phrase x.Item
 typed_ at is_static = ph.◌>>=◌ gr.type_base (λ base. placed (λ from. ph.◌>>=◌ (gr.star base) (λ pointer. ph.◌>>=◌ name_ (λ called.
-    sc.function_of at is_static (Value (record { base = base; pointer = pointer })) called or variables_ at is_static base from pointer called))))
+    (sc.function_of gr.expression) at is_static (Value (record { base = base; pointer = pointer })) called or variables_ at is_static base from pointer called))))
 
 typed_exact : (at : Place) (is_static : Bool) → Exact (typed_ at is_static) (so.typed at is_static) BASES (λ _. []) true
 unfolding so.typed sees
@@ -88,7 +88,7 @@ typed_exact at is_static = seq type_base_exact (λ base. placed_exact _ _ (50 �
     refl (λ _. refl) (λ _. refl) (λ e. cc))) refl)) refl
 
 abbrev external_ : Place → Phrase x.Item
-external_ at = ph.◌>>=◌ (flag (key_ key.Static)) (λ is_static. ph.◌>>◌ (key_ key.Void) (ph.◌>>=◌ name_ (λ called. sc.function_of at is_static Void called)) or typed_ at is_static)
+external_ at = ph.◌>>=◌ (flag (key_ key.Static)) (λ is_static. ph.◌>>◌ (key_ key.Void) (ph.◌>>=◌ name_ (λ called. (sc.function_of gr.expression) at is_static Void called)) or typed_ at is_static)
 
 external_exact : (at : Place) → Exact (external_ at) (so.external at) (14 ∷ 12 ∷ BASES) (λ _. []) true
 unfolding so.external sees_key
@@ -98,44 +98,44 @@ external_exact at = maybe_seq (flag_key_exact key.Static refl) (λ is_static. by
 
 -- ---- the two productions that begin alike, put together
 
-function_same : (at : Place) → Same (sc.function at) (ph.◌>>=◌ (flag (key_ key.Static)) (λ is_static. ph.◌>>◌ (key_ key.Void) (ph.◌>>=◌ name_ (λ called. sc.function_of at is_static Void called))
-    or ph.◌>>=◌ gr.type_base (λ base. ph.◌>>=◌ (gr.star base) (λ pointer. ph.◌>>=◌ name_ (λ called. sc.function_of at is_static (Value (record { base = base; pointer = pointer })) called)))))
+function_same : (at : Place) → Same ((sc.function gr.expression) at) (ph.◌>>=◌ (flag (key_ key.Static)) (λ is_static. ph.◌>>◌ (key_ key.Void) (ph.◌>>=◌ name_ (λ called. (sc.function_of gr.expression) at is_static Void called))
+    or ph.◌>>=◌ gr.type_base (λ base. ph.◌>>=◌ (gr.star base) (λ pointer. ph.◌>>=◌ name_ (λ called. (sc.function_of gr.expression) at is_static (Value (record { base = base; pointer = pointer })) called)))))
 unfolding sc.function gr.type_name
 function_same at = same_bind (same_refl _) (λ is_static. same_trans (or_then _ _ _) (same_or
-    (same_trans (regroup (key_ key.Void) _ _) (same_bind (same_refl _) (λ _. give_then Void (λ returns. ph.◌>>=◌ name_ (λ called. sc.function_of at is_static returns called)) (inl (inl refl)))))
+    (same_trans (regroup (key_ key.Void) _ _) (same_bind (same_refl _) (λ _. give_then Void (λ returns. ph.◌>>=◌ name_ (λ called. (sc.function_of gr.expression) at is_static returns called)) (inl (inl refl)))))
     (same_trans (regroup gr.type_name _ _) (same_trans (regroup gr.type_base _ _) (same_bind (same_refl _) (λ base.
     same_trans (regroup (gr.star base) _ _) (same_bind (same_refl _) (λ pointer.
-    same_trans (give_then (record { base = base; pointer = pointer }) (λ to. ph.◌>>=◌ (give (Value to)) (λ returns. ph.◌>>=◌ name_ (λ called. sc.function_of at is_static returns called))) (inl refl))
-    (give_then (Value (record { base = base; pointer = pointer })) (λ returns. ph.◌>>=◌ name_ (λ called. sc.function_of at is_static returns called)) (inl (inl refl)))))))))))
+    same_trans (give_then (record { base = base; pointer = pointer }) (λ to. ph.◌>>=◌ (give (Value to)) (λ returns. ph.◌>>=◌ name_ (λ called. (sc.function_of gr.expression) at is_static returns called))) (inl refl))
+    (give_then (Value (record { base = base; pointer = pointer })) (λ returns. ph.◌>>=◌ name_ (λ called. (sc.function_of gr.expression) at is_static returns called)) (inl (inl refl)))))))))))
 
 abbrev declarator_at : Base → Place → Phrase x.Declarator
-declarator_at base at = ph.◌>>=◌ (gr.star base) (λ pointer. ph.◌>>=◌ name_ (λ called. dg.declared most_deep at pointer called))
+declarator_at base at = ph.◌>>=◌ (gr.star base) (λ pointer. ph.◌>>=◌ name_ (λ called. (dg.declared gr.expression) most_deep at pointer called))
 
-declarator_fills : (base : Base) (at : Place) (a : x.Declarator) → (ph.◌>>=◌ (gr.star base) (λ pointer. ph.◌>>=◌ name_ (λ called. dg.declared most_deep at pointer called))).spells [] a → ⊥
+declarator_fills : (base : Base) (at : Place) (a : x.Declarator) → (ph.◌>>=◌ (gr.star base) (λ pointer. ph.◌>>=◌ name_ (λ called. (dg.declared gr.expression) most_deep at pointer called))).spells [] a → ⊥
 declarator_fills base at a h =
     (maybe_seq {r = ex.star base} {l = λ pointer. name >>= (λ called. dc.declared most_deep at pointer called)} (star_exact base) (λ pointer. seq_of pointer) refl).fills refl a h
   where
-    seq_of : (pointer : Bool) → Exact (ph.◌>>=◌ name_ (λ called. dg.declared most_deep at pointer called)) (name >>= (λ called. dc.declared most_deep at pointer called)) NAMES (λ _. after part.Assign) true
+    seq_of : (pointer : Bool) → Exact (ph.◌>>=◌ name_ (λ called. (dg.declared gr.expression) most_deep at pointer called)) (name >>= (λ called. dc.declared most_deep at pointer called)) NAMES (λ _. after part.Assign) true
     seq_of pointer = token_then name_exact (λ called. declared_exact most_deep at pointer called)
 
-variables_same : (at : Place) → Same (ph.◌>>=◌ (dg.declaration_at most_deep at) (λ found. give (x.Variables found))) (ph.◌>>=◌ (flag (key_ key.Static)) (λ is_static. ph.◌>>=◌ gr.type_base (λ base. placed (λ from. ph.◌>>=◌ (gr.star base) (λ pointer. ph.◌>>=◌ name_ (λ called. variables_ at is_static base from pointer called))))))
+variables_same : (at : Place) → Same (ph.◌>>=◌ ((dg.declaration_at gr.expression) most_deep at) (λ found. give (x.Variables found))) (ph.◌>>=◌ (flag (key_ key.Static)) (λ is_static. ph.◌>>=◌ gr.type_base (λ base. placed (λ from. ph.◌>>=◌ (gr.star base) (λ pointer. ph.◌>>=◌ name_ (λ called. variables_ at is_static base from pointer called))))))
 unfolding dg.declaration_at dg.declarator
 variables_same at = same_trans (regroup (flag (key_ key.Static)) _ _) (same_bind (same_refl _) (λ is_static.
     same_trans (regroup gr.type_base _ _) (same_bind (same_refl _) (λ base.
-    same_trans (regroup (gr.separated (dg.declarator most_deep base)) _ _)
+    same_trans (regroup (gr.separated ((dg.declarator gr.expression) most_deep base)) _ _)
     (same_trans (same_bind (same_refl _) (λ found. same_trans (regroup (mark_ mark.Semicolon) _ _) (same_bind (same_refl _) (λ _. give_then (record { at = at; is_static = is_static; base = base; declarators = found }) (λ found. give (x.Variables found)) refl))))
-    (same_trans (regroup (dg.declarator most_deep base) _ _)
+    (same_trans (regroup ((dg.declarator gr.expression) most_deep base) _ _)
     (same_trans (placed_then (declarator_at base) (more_ at is_static base) (declarator_fills base)) (same_placed (λ from.
-    same_trans (regroup (gr.star base) (λ pointer. ph.◌>>=◌ name_ (λ called. dg.declared most_deep from pointer called)) (more_ at is_static base)) (same_bind (same_refl (gr.star base)) (λ pointer. regroup name_ (λ called. dg.declared most_deep from pointer called) (more_ at is_static base))))))))))))
+    same_trans (regroup (gr.star base) (λ pointer. ph.◌>>=◌ name_ (λ called. (dg.declared gr.expression) most_deep from pointer called)) (more_ at is_static base)) (same_bind (same_refl (gr.star base)) (λ pointer. regroup name_ (λ called. (dg.declared gr.expression) most_deep from pointer called) (more_ at is_static base))))))))))))
 
 abbrev function_ : Place → Bool → Base → Bool → List ℕ → Phrase x.Item
-function_ at is_static base pointer called = sc.function_of at is_static (Value (record { base = base; pointer = pointer })) called
+function_ at is_static base pointer called = (sc.function_of gr.expression) at is_static (Value (record { base = base; pointer = pointer })) called
 
-typed_same : (at : Place) (is_static : Bool) → Same (ph.◌>>=◌ gr.type_base (λ base. ph.◌>>=◌ (gr.star base) (λ pointer. ph.◌>>=◌ name_ (λ called. sc.function_of at is_static (Value (record { base = base; pointer = pointer })) called)))
+typed_same : (at : Place) (is_static : Bool) → Same (ph.◌>>=◌ gr.type_base (λ base. ph.◌>>=◌ (gr.star base) (λ pointer. ph.◌>>=◌ name_ (λ called. (sc.function_of gr.expression) at is_static (Value (record { base = base; pointer = pointer })) called)))
     or ph.◌>>=◌ gr.type_base (λ base. placed (λ from. ph.◌>>=◌ (gr.star base) (λ pointer. ph.◌>>=◌ name_ (λ called. variables_ at is_static base from pointer called))))) (typed_ at is_static)
 typed_same at is_static = same_trans (factor gr.type_base _ _) (same_bind (same_refl _) (λ base. same_placed (λ from. same_trans (factor (gr.star base) (λ pointer. ph.◌>>=◌ name_ (function_ at is_static base pointer)) (λ pointer. ph.◌>>=◌ name_ (variables_ at is_static base from pointer))) (same_bind (same_refl (gr.star base)) (λ pointer. factor name_ (function_ at is_static base pointer) (variables_ at is_static base from pointer))))))
 
-external_same : (at : Place) → Same (ph.◌>>=◌ (dg.declaration_at most_deep at) (λ found. give (x.Variables found)) or sc.function at) (external_ at)
+external_same : (at : Place) → Same (ph.◌>>=◌ ((dg.declaration_at gr.expression) most_deep at) (λ found. give (x.Variables found)) or (sc.function gr.expression) at) (external_ at)
 external_same at = same_trans (same_or (variables_same at) (function_same at)) (same_trans (factor (flag (key_ key.Static)) _ _) (same_bind (same_refl _) (λ is_static. same_trans (turn_round _ _ _) (same_or (same_refl _) (typed_same at is_static)))))
 
 -- ---- items
@@ -163,17 +163,17 @@ not_scope at c ts e = refl
 abbrev pub ITEM : List ℕ
 ITEM = 3 ∷ 14 ∷ 12 ∷ BASES
 
-item_at_exact : (at : Place) → Exact (ph.◌>>=◌ (one scope_as) (λ scope. give (x.Scope at scope.0 scope.1)) or ph.◌>>=◌ (dg.declaration_at most_deep at) (λ found. give (x.Variables found)) or sc.function at) (λ ts. so.item_by at (class_at ts) ts) ITEM (λ _. []) true
+item_at_exact : (at : Place) → Exact (ph.◌>>=◌ (one scope_as) (λ scope. give (x.Scope at scope.0 scope.1)) or ph.◌>>=◌ ((dg.declaration_at gr.expression) most_deep at) (λ found. give (x.Variables found)) or (sc.function gr.expression) at) (λ ts. so.item_by at (class_at ts) ts) ITEM (λ _. []) true
 item_at_exact at = by_phrase _ (or_exact _ _ (scope_reader at) (so.external at) _ (3 ∷ []) (14 ∷ 12 ∷ BASES) (λ _. []) (λ _. []) (λ _. []) true
     (map_same (λ scope. x.Scope at scope.0 scope.1) (one_exact scope_as (3 ∷ []) (λ s a e. in_scopes s.class s.names a e) refl))
     (by_phrase _ (external_exact at) (same_sym (external_same at))) refl
     (λ s ts e. scope_read at s.at s.class s.bytes s.names ts e) (λ s ts e. not_scope at s.class (s ∷ ts) e) refl (λ _. refl) (λ _. refl) (λ e. cc))
     (same_sym (or_group _ _ _))
 
-pub item_exact : Exact sc.item so.item ITEM (λ _. []) true
+pub item_exact : Exact (sc.item gr.expression) so.item ITEM (λ _. []) true
 unfolding sc.item so.item
 item_exact = placed_exact _ _ ITEM (λ _. []) item_at_exact
 
-pub more_items_exact : (found : List x.Item) → Exact (sc.one_more_item found) (so.one_more_item found) ITEM (λ _. []) true
+pub more_items_exact : (found : List x.Item) → Exact ((sc.one_more_item gr.expression) found) (so.one_more_item found) ITEM (λ _. []) true
 unfolding sc.one_more_item
 more_items_exact found = map_same (λ i. found ++ i ∷ []) item_exact

@@ -1,4 +1,5 @@
 pub mod Blocks
+pub mod Bounds
 pub mod Calls
 pub mod Choices
 pub mod ClassTests
@@ -10,7 +11,8 @@ pub mod Heads
 pub mod ItemRows
 pub mod ItemsRead
 pub mod LastLines
-pub mod Laws
+pub mod OneAnswer
+pub mod OneShown
 pub mod Refused
 pub mod Repeats
 pub mod Sets
@@ -21,4 +23,5 @@ pub mod StatementsRead
 pub mod Turns
 pub mod TypesRead
 pub mod UnaryRead
+pub mod Unbounded
 pub mod Windows

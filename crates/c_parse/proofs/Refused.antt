@@ -9,7 +9,7 @@ use Rattle.c_parse.specs.Reading.{Fails}
 use Rattle.c_parse.specs.Sources.{source}
 use Rattle.c_parse.specs.Parsed.{RefusedAt}
 use Rattle.c_parse.specs.Places.{is_refused, refusal_at}
-use Rattle.c_parse.proofs.Laws.{refused_by, pragma_refused_by, refused_at_end}
+use Rattle.c_parse.proofs.OneAnswer.{refused_by, pragma_refused_by, refused_at_end}
 
 no_refused : (c : Class) → is_refused c ≡ false → c ≡ class.Refused → ⊥
 no_refused c e f = let g : is_refused class.Refused ≡ false = subst (λ d. is_refused d ≡ false) f e in cc

@@ -13,7 +13,7 @@ use Rattle.c_parse.specs.declared.symbols.Class.{Class}
 use Rattle.c_parse.specs.declared.symbols.Class.TheVariants as class
 use Rattle.c_parse.specs.declared.symbols.Symbol.{Symbol}
 use Rattle.c_parse.specs.Symbols.{Sym, Symbols, Shows, none, shown, foreign, as_scope, as_single, as_barrier, as_refused, sym_of, bytes_of, named_in}
-use Rattle.c_parse.specs.Spellings.{Sees, made}
+use Rattle.c_parse.specs.Seen.{Sees, made}
 
 pub sees_some : (src : List ℕ) (t : Token) (c : Class) (names : List (List ℕ)) (s : Symbol) → s ≡ made t c names → Shows src t c names → Sees src t (Some s)
 sees_some src t c names s e h = subst (λ s. Sees src t (Some s)) (sym e) (h, refl)

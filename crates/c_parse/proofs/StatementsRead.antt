@@ -21,6 +21,7 @@ use Rattle.c_parse.specs.Statements as st
 use Rattle.c_parse.specs.StatementGrammar.{items_of, block_of, is_open, single_as, single_by, is_barrier}
 use Rattle.c_parse.specs.Grammar.{one_if, mark_}
 use Rattle.c_parse.specs.StatementGrammar as sg
+use Rattle.c_parse.specs.Grammar as gr
 use Rattle.c_parse.proofs.Sets.{code, mark_code, is_in, apart, within, apart_no}
 use Rattle.c_parse.proofs.ClassTests.{in_mark, in_key, BASES}
 use Rattle.c_parse.proofs.Exact.{Exact, bind_exact, give_exact, nothing_exact, one_exact, take_one, taken, then_got}
@@ -86,15 +87,15 @@ unfolding st.optional sees expect
 optional_is d end ts = optional_by d end (is_mark end (class_at ts)) ts refl
 
 optional_exact : (d : ℕ) (end : Mark) → is_in (mark_code end ∷ []) 6 ≡ false → is_mark end class.Other ≡ false → apart EXPR (mark_code end ∷ []) ≡ true → apart (mark_code end ∷ []) (after part.Assign) ≡ true
-    → Exact (sg.optional d end) (ended d end) (mark_code end ∷ EXPR) (λ _. []) true
+    → Exact ((sg.optional gr.expression) d end) (ended d end) (mark_code end ∷ EXPR) (λ _. []) true
 unfolding sg.optional
 optional_exact d end plain other parted follows = by_reader _ (branch_exact (is_mark end) (mark_code end ∷ []) (λ _. []) (in_mark end) plain other (give_exact None)
     (seq (expression_exact d part.Assign) (λ value. token_then (mark_exact end) (λ _. give_exact (Some value))) follows) parted (λ _. refl) (λ _. refl) (λ e. cc)) (optional_is d end)
 
-to_semicolon : (d : ℕ) → Exact (sg.optional d mark.Semicolon) (ended d mark.Semicolon) (36 ∷ EXPR) (λ _. []) true
+to_semicolon : (d : ℕ) → Exact ((sg.optional gr.expression) d mark.Semicolon) (ended d mark.Semicolon) (36 ∷ EXPR) (λ _. []) true
 to_semicolon d = optional_exact d mark.Semicolon refl refl refl refl
 
-to_close : (d : ℕ) → Exact (sg.optional d mark.Close) (ended d mark.Close) (31 ∷ EXPR) (λ _. []) true
+to_close : (d : ℕ) → Exact ((sg.optional gr.expression) d mark.Close) (ended d mark.Close) (31 ∷ EXPR) (λ _. []) true
 to_close d = optional_exact d mark.Close refl refl refl refl
 
 -- the end put to the expression before it
@@ -136,7 +137,7 @@ module _ (sp : Phrase x.Stmt) (sr : Reader x.Stmt) (es : Exact sp sr STMT else_a
 
   -- ---- blocks
 
-  item_exact : Exact (sg.item p_) (st.item r_) (14 ∷ BASES ++ STMT) (λ _. 16 ∷ []) true
+  item_exact : Exact ((sg.item gr.expression) p_) (st.item r_) (14 ∷ BASES ++ STMT) (λ _. 16 ∷ []) true
   unfolding sg.item st.item
   item_exact = or_exact _ sp (dc.declaration depth >>= (λ found. pure (x.Declare found))) sr (st.item r_) (14 ∷ BASES) STMT (λ _. []) (λ _. 16 ∷ []) (λ _. 16 ∷ []) true
       (map_same (λ found. x.Declare found) (declaration_exact depth)) any_else refl
@@ -144,7 +145,7 @@ module _ (sp : Phrase x.Stmt) (sr : Reader x.Stmt) (es : Exact sp sr STMT else_a
       (λ s ts e. ap (λ b. st.item_by r_ b (s ∷ ts)) (sym (in_declarations s.class) ∙ e))
       (ap (λ b. st.item_by r_ b []) (sym (in_declarations class.Other))) (λ _. refl) (λ _. refl) (λ e. cc)
 
-  more_exact : (found : List x.Stmt) → Exact (sg.one_more_item p_ found) (st.one_more_item r_ found) (14 ∷ BASES ++ STMT) (λ _. 16 ∷ []) true
+  more_exact : (found : List x.Stmt) → Exact ((sg.one_more_item gr.expression) p_ found) (st.one_more_item r_ found) (14 ∷ BASES ++ STMT) (λ _. 16 ∷ []) true
   unfolding sg.one_more_item
   more_exact found = map_same (λ s. found ++ s ∷ []) item_exact
 
@@ -172,22 +173,22 @@ module _ (sp : Phrase x.Stmt) (sr : Reader x.Stmt) (es : Exact sp sr STMT else_a
   unfolding sees
   begun_closing c ts e = sym (in_mark mark.CloseBrace c.class) ∙ e
 
-  body_at_exact : (at : Place) → Exact (ph.◌>>◌ (mark_ mark.OpenBrace) (ph.◌>>=◌ (ph.repeat (sg.one_more_item p_) []) (λ found. ph.◌>>=◌ (one_if (is_mark mark.CloseBrace) (λ s. s.at)) (λ end. give (record { at = at; items = items_of found; end_line = end.line }))))) (expect mark.OpenBrace >>= (λ _. st.body_at r_ at)) (34 ∷ []) (λ _. []) true
+  body_at_exact : (at : Place) → Exact (ph.◌>>◌ (mark_ mark.OpenBrace) (ph.◌>>=◌ (ph.repeat ((sg.one_more_item gr.expression) p_) []) (λ found. ph.◌>>=◌ (one_if (is_mark mark.CloseBrace) (λ s. s.at)) (λ end. give (record { at = at; items = items_of found; end_line = end.line }))))) (expect mark.OpenBrace >>= (λ _. st.body_at r_ at)) (34 ∷ []) (λ _. []) true
   unfolding st.body_at st.items
-  body_at_exact at = token_then (mark_exact mark.OpenBrace) (λ _. until_exact (sg.one_more_item p_) (st.one_more_item r_) (sees mark.CloseBrace) (14 ∷ BASES ++ STMT) (16 ∷ []) more_exact begun_item refl
+  body_at_exact at = token_then (mark_exact mark.OpenBrace) (λ _. until_exact ((sg.one_more_item gr.expression) p_) (st.one_more_item r_) (sees mark.CloseBrace) (14 ∷ BASES ++ STMT) (16 ∷ []) more_exact begun_item refl
       _ (closing_reader at) (35 ∷ []) (λ _. []) (closing_exact at) begun_closing refl [])
 
   body_is : (b : Bool) (ts : List Sym) → (if b then (expect mark.OpenBrace >>= (λ _. st.body_at r_ (rd.place_at ts))) else refuse) ts ≡ (if b then (here >>= (λ at. expect mark.OpenBrace >>= (λ _. st.body_at r_ at))) else refuse) ts
   body_is true ts = refl
   body_is false ts = refl
 
-  pub body_exact : Exact (sg.body p_) (st.body r_) (34 ∷ []) (λ _. []) true
+  pub body_exact : Exact ((sg.body gr.expression) p_) (st.body r_) (34 ∷ []) (λ _. []) true
   unfolding sg.body st.body
   body_exact = by_reader _ (when_exact deep (placed_exact _ _ (34 ∷ []) (λ _. []) body_at_exact)) (body_is deep)
 
   -- ---- statements whose parts are deeper
 
-  condition_exact : Exact (sg.condition p_) (st.condition r_) (30 ∷ []) (λ _. []) true
+  condition_exact : Exact ((sg.condition gr.expression) p_) (st.condition r_) (30 ∷ []) (λ _. []) true
   unfolding sg.condition st.condition
   condition_exact = token_then (mark_exact mark.Open) (λ _. seq (expression_exact depth part.Assign) (λ test. token_then (mark_exact mark.Close) (λ _. give_exact test)) refl)
 
@@ -201,25 +202,25 @@ module _ (sp : Phrase x.Stmt) (sr : Reader x.Stmt) (es : Exact sp sr STMT else_a
   if_goes : (at : Place) (test : x.Expr) (body a : x.Stmt) → a ≡ x.If at test body → within (16 ∷ []) (else_after a) ≡ true
   if_goes at test body a h = subst (λ a. within (16 ∷ []) (else_after a) ≡ true) (sym h) refl
 
-  other_exact : (at : Place) (test : x.Expr) (body : x.Stmt) (b : Bool) → Exact (sg.other_of p_ at test body b) (tail_by b at test body) (16 ∷ []) else_after false
+  other_exact : (at : Place) (test : x.Expr) (body : x.Stmt) (b : Bool) → Exact ((sg.other_of gr.expression) p_ at test body b) (tail_by b at test body) (16 ∷ []) else_after false
   unfolding sg.other_of sees_key
   other_exact at test body true = widen (16 ∷ []) else_after (give_exact (x.If at test body)) refl (λ _. refl)
   other_exact at test body false = by_reader _ (branch_exact (is_key key.Else) (16 ∷ []) else_after (in_key key.Else) refl refl
       (map_exact (λ other. x.IfElse at test body other) else_after es (λ a. within_self (else_after a))) (give_exact (x.If at test body)) refl (λ a. within_self (else_after a)) (λ _. refl) (λ e a h. if_goes at test body a h.1))
       (λ ts. eaten (is_key key.Else (class_at ts)) ts _ _)
 
-  parts_else : (at : Place) (test : x.Expr) (body : x.Stmt) (b : Bool) (c : Sym) (ts : List Sym) → (sg.other_of p_ at test body b).front (c ∷ ts) → is_in (open_set b) (code c.class) ≡ false
+  parts_else : (at : Place) (test : x.Expr) (body : x.Stmt) (b : Bool) (c : Sym) (ts : List Sym) → ((sg.other_of gr.expression) p_ at test body b).front (c ∷ ts) → is_in (open_set b) (code c.class) ≡ false
   unfolding sg.other_of
   parts_else at test body true c ts f = cc
   parts_else at test body false c ts f = refl
 
-  ends_open : (at : Place) (test : x.Expr) (body : x.Stmt) (b : Bool) (t : x.Stmt) → (sg.other_of p_ at test body b).spells [] t → within (open_set b) (else_after t) ≡ true
+  ends_open : (at : Place) (test : x.Expr) (body : x.Stmt) (b : Bool) (t : x.Stmt) → ((sg.other_of gr.expression) p_ at test body b).spells [] t → within (open_set b) (else_after t) ≡ true
   unfolding sg.other_of
   ends_open at test body true t h = subst (λ t. within (16 ∷ []) (else_after t) ≡ true) (sym h.1) refl
   ends_open at test body false t h = refl
 
-  then_exact : (at : Place) (test : x.Expr) → Exact (ph.◌>>=◌ sp (λ body. sg.other_of p_ at test body (is_open body))) (sr >>= (λ body. tail_by (is_open body) at test body)) STMT else_after true
-  then_exact at test = bind_exact sp (λ body. sg.other_of p_ at test body (is_open body)) sr (λ body. tail_by (is_open body) at test body) STMT else_after true (16 ∷ []) (λ _. else_after) false STMT else_after true
+  then_exact : (at : Place) (test : x.Expr) → Exact (ph.◌>>=◌ sp (λ body. (sg.other_of gr.expression) p_ at test body (is_open body))) (sr >>= (λ body. tail_by (is_open body) at test body)) STMT else_after true
+  then_exact at test = bind_exact sp (λ body. (sg.other_of gr.expression) p_ at test body (is_open body)) sr (λ body. tail_by (is_open body) at test body) STMT else_after true (16 ∷ []) (λ _. else_after) false STMT else_after true
       es (λ body. other_exact at test body (is_open body)) (within_self STMT) (λ e. cc) (λ _. inl refl)
       (λ body c ts f. parts_else at test body (is_open body) c ts f) (λ body t ts h. within_self (else_after t)) (λ body t h. ends_open at test body (is_open body) t h)
 
@@ -231,23 +232,23 @@ module _ (sp : Phrase x.Stmt) (sr : Reader x.Stmt) (es : Exact sp sr STMT else_a
   body_then at test (Got body rest) h = tail_is at test body rest (h body rest refl) (is_open body) refl
   body_then at test (Fails rest) h = refl
 
-  if_exact : (at : Place) → Exact (sg.if_ p_ at) (if deep then (expect_key key.If >>= (λ _. st.if_from r_ at)) else refuse) (15 ∷ []) else_after true
+  if_exact : (at : Place) → Exact ((sg.if_ gr.expression) p_ at) (if deep then (expect_key key.If >>= (λ _. st.if_from r_ at)) else refuse) (15 ∷ []) else_after true
   unfolding sg.if_ st.if_from
   if_exact at = when_exact deep (token_then (key_exact key.If) (λ _. by_reader _ (seq condition_exact (λ test. then_exact at test) refl)
       (λ ts. then_same (st.condition r_ ts) (λ test us. body_then at test (sr us) (settled us)))))
 
-  while_exact : (at : Place) → Exact (sg.while_ p_ at) (if deep then (expect_key key.While >>= (λ _. st.while_from r_ at)) else refuse) (17 ∷ []) else_after true
+  while_exact : (at : Place) → Exact ((sg.while_ gr.expression) p_ at) (if deep then (expect_key key.While >>= (λ _. st.while_from r_ at)) else refuse) (17 ∷ []) else_after true
   unfolding sg.while_ st.while_from
   while_exact at = when_exact deep (token_then (key_exact key.While) (λ _. seq condition_exact (λ test. map_exact (λ body. x.While at test body) else_after es (λ a. within_self (else_after a))) refl))
 
-  do_exact : (at : Place) → Exact (sg.do_ p_ at) (if deep then (expect_key key.Do >>= (λ _. st.do_from r_ at)) else refuse) (18 ∷ []) (λ _. []) true
+  do_exact : (at : Place) → Exact ((sg.do_ gr.expression) p_ at) (if deep then (expect_key key.Do >>= (λ _. st.do_from r_ at)) else refuse) (18 ∷ []) (λ _. []) true
   unfolding sg.do_ st.do_from
   do_exact at = when_exact deep (token_then (key_exact key.Do) (λ _. seq any_else (λ body. token_then (key_exact key.While) (λ _. seq condition_exact (λ test. token_then (mark_exact mark.Semicolon) (λ _. give_exact (x.DoWhile at body test))) refl)) refl))
 
   head_rest_is : (ts : List Sym) → st.for_head_by r_ false ts ≡ (ended depth mark.Semicolon >>= (λ value. pure (sg.evaluated value))) ts
   head_rest_is ts = ended_is (st.optional depth mark.Semicolon ts) mark.Semicolon (λ value. pure (sg.evaluated value))
 
-  head_exact : Exact (sg.for_head p_) (st.for_head r_) (14 ∷ BASES ++ 36 ∷ EXPR) (λ _. []) true
+  head_exact : Exact ((sg.for_head gr.expression) p_) (st.for_head r_) (14 ∷ BASES ++ 36 ∷ EXPR) (λ _. []) true
   unfolding sg.for_head st.for_head
   head_exact = or_exact _ _ (dc.declaration depth >>= (λ found. pure (x.Declared found))) (st.for_head_by r_ false) (st.for_head r_) (14 ∷ BASES) (36 ∷ EXPR) (λ _. []) (λ _. []) (λ _. []) true
       (map_same (λ found. x.Declared found) (declaration_exact depth)) (by_reader _ (map_same sg.evaluated (to_semicolon depth)) head_rest_is) refl
@@ -263,7 +264,7 @@ module _ (sp : Phrase x.Stmt) (sr : Reader x.Stmt) (es : Exact sp sr STMT else_a
   for_rest_is at head ts = ended_is (st.optional depth mark.Semicolon ts) mark.Semicolon (λ test. st.optional depth mark.Close >>= (λ step. expect mark.Close >>= (λ _. sr >>= (λ body. pure (x.For at head test step body)))))
       ∙ then_same (ended depth mark.Semicolon ts) (λ test us. ended_is (st.optional depth mark.Close us) mark.Close (λ step. sr >>= (λ body. pure (x.For at head test step body))))
 
-  for_exact : (at : Place) → Exact (sg.for_ p_ at) (if deep then (expect_key key.For >>= (λ _. st.for_from r_ at)) else refuse) (19 ∷ []) else_after true
+  for_exact : (at : Place) → Exact ((sg.for_ gr.expression) p_ at) (if deep then (expect_key key.For >>= (λ _. st.for_from r_ at)) else refuse) (19 ∷ []) else_after true
   unfolding sg.for_ st.for_from
   for_exact at = when_exact deep (token_then (key_exact key.For) (λ _. token_then (mark_exact mark.Open) (λ _. seq head_exact (λ head. by_reader _
       (seq (to_semicolon depth) (λ test. seq (to_close depth) (λ step. map_exact (λ body. x.For at head test step body) else_after es (λ a. within_self (else_after a))) refl) refl) (for_rest_is at head)) refl)))
@@ -304,7 +305,7 @@ module _ (sp : Phrase x.Stmt) (sr : Reader x.Stmt) (es : Exact sp sr STMT else_a
         (expect_key key.Continue >>= (λ _. st.ended r_ d (x.Continue at))))
         (st.eval r_ d at)
 
-    picked_exact : (at : Place) → Exact (sg.statement_at p_ d at) (picked at) STMT else_after true
+    picked_exact : (at : Place) → Exact ((sg.statement_at gr.expression) p_ d at) (picked at) STMT else_after true
     unfolding sg.statement_at st.block st.ended st.eval
     picked_exact at =
         pick_over else_after (pick_over else_after (pick_over else_after (pick_over else_after (pick_over else_after (pick_over else_after (pick_over else_after (pick_over else_after (pick_over else_after (pick_over else_after (pick_over else_after
@@ -342,9 +343,9 @@ module _ (sp : Phrase x.Stmt) (sr : Reader x.Stmt) (es : Exact sp sr STMT else_a
     picked_is at [] = refl
     picked_is at (s ∷ ts) = picked_is_at at s.at s.class s.bytes s.names ts deep refl
 
-    pub statement_exact : Exact (placed (sg.statement_at p_ d)) (st.statement_at r_ d) STMT else_after true
+    pub statement_exact : Exact (placed ((sg.statement_at gr.expression) p_ d)) (st.statement_at r_ d) STMT else_after true
     unfolding st.statement_at
-    statement_exact = by_reader _ (placed_exact (sg.statement_at p_ d) picked STMT else_after picked_exact) (λ ts. picked_is (rd.place_at ts) ts)
+    statement_exact = by_reader _ (placed_exact ((sg.statement_at gr.expression) p_ d) picked STMT else_after picked_exact) (λ ts. picked_is (rd.place_at ts) ts)
 
     -- ---- no statement stops in front of an else of its own
 
@@ -420,14 +421,14 @@ module _ (sp : Phrase x.Stmt) (sr : Reader x.Stmt) (es : Exact sp sr STMT else_a
 never_stmt : Exact {A = x.Stmt} nothing refuse STMT else_after true
 never_stmt = widen STMT else_after nothing_exact refl (λ _. refl)
 
-pub inside_exact : (d : ℕ) → Exact (sg.inside d).stmt (st.inside d).stmt STMT else_after true × Settled (st.inside d).stmt
+pub inside_exact : (d : ℕ) → Exact ((sg.inside gr.expression) d).stmt (st.inside d).stmt STMT else_after true × Settled (st.inside d).stmt
 unfolding sg.inside st.inside
 inside_exact zero = (never_stmt, λ ts t rest e q. cc)
-inside_exact (suc zero) = let i = inside_exact zero in (statement_exact (sg.inside zero).stmt (st.inside zero).stmt i.0 i.1 0 false zero, statement_settled (sg.inside zero).stmt (st.inside zero).stmt i.0 i.1 0 false zero)
-inside_exact (suc (suc d)) = let i = inside_exact (suc d) in (statement_exact (sg.inside (suc d)).stmt (st.inside (suc d)).stmt i.0 i.1 d true (suc d), statement_settled (sg.inside (suc d)).stmt (st.inside (suc d)).stmt i.0 i.1 d true (suc d))
+inside_exact (suc zero) = let i = inside_exact zero in (statement_exact ((sg.inside gr.expression) zero).stmt (st.inside zero).stmt i.0 i.1 0 false zero, statement_settled ((sg.inside gr.expression) zero).stmt (st.inside zero).stmt i.0 i.1 0 false zero)
+inside_exact (suc (suc d)) = let i = inside_exact (suc d) in (statement_exact ((sg.inside gr.expression) (suc d)).stmt (st.inside (suc d)).stmt i.0 i.1 d true (suc d), statement_settled ((sg.inside gr.expression) (suc d)).stmt (st.inside (suc d)).stmt i.0 i.1 d true (suc d))
 
 -- the block of a function
-pub block_exact : (d : ℕ) → Exact (sg.body (sg.inside d)) (st.body (st.inside d)) (34 ∷ []) (λ _. []) true
+pub block_exact : (d : ℕ) → Exact ((sg.body gr.expression) ((sg.inside gr.expression) d)) (st.body (st.inside d)) (34 ∷ []) (λ _. []) true
 unfolding sg.inside st.inside
-block_exact zero = let i = inside_exact zero in body_exact (sg.inside zero).stmt (st.inside zero).stmt i.0 i.1 0 false
-block_exact (suc d) = let i = inside_exact (suc d) in body_exact (sg.inside (suc d)).stmt (st.inside (suc d)).stmt i.0 i.1 d true
+block_exact zero = let i = inside_exact zero in body_exact ((sg.inside gr.expression) zero).stmt (st.inside zero).stmt i.0 i.1 0 false
+block_exact (suc d) = let i = inside_exact (suc d) in body_exact ((sg.inside gr.expression) (suc d)).stmt (st.inside (suc d)).stmt i.0 i.1 d true

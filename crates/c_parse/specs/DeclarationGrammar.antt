@@ -8,10 +8,11 @@ use Rattle.c_tree.specs.declared.syntax.ParamType.TheVariants.{Plain, Array, Arg
 use Rattle.c_tree.specs.Syntax as x
 use Rattle.c_parse.specs.declared.symbols.Key.TheVariants as key
 use Rattle.c_parse.specs.declared.symbols.Mark.TheVariants as mark
+use Rattle.c_parse.specs.declared.grammar.Part.{Part}
 use Rattle.c_parse.specs.declared.grammar.Part.TheVariants as part
 use Rattle.c_parse.specs.Signs.{is_star, is_equals}
 use Rattle.c_parse.specs.Phrases.{Phrase, give, ◌>>=◌, ◌>>◌, ◌or◌, placed}
-use Rattle.c_parse.specs.Grammar.{one_if, mark_, key_, name_, flag, separated, type_base, star, expression}
+use Rattle.c_parse.specs.Grammar.{one_if, mark_, key_, name_, flag, separated, type_base, star}
 
 -- ---- declarators
 
@@ -19,47 +20,49 @@ use Rattle.c_parse.specs.Grammar.{one_if, mark_, key_, name_, flag, separated, t
 abbrev pub equals_ : Phrase (Unit {0})
 equals_ = one_if is_equals (λ _. tt)
 
--- [ "[" cond "]" ], not behind a *
-unfoldable pub len_of : ℕ → Bool → Phrase (Option x.Expr)
-len_of d true = give None
-len_of d false = (do mark_ mark.OpenSquare; len ← expression d part.Cond; mark_ mark.CloseSquare; give (Some len)) or give None
+-- by the rule of the expressions that no larger one covers, at a depth
+module _ (expression : ℕ → Part → Phrase x.Expr) where
+  -- [ "[" cond "]" ], not behind a *
+  unfoldable pub len_of : ℕ → Bool → Phrase (Option x.Expr)
+  len_of d true = give None
+  len_of d false = (do mark_ mark.OpenSquare; len ← expression d part.Cond; mark_ mark.CloseSquare; give (Some len)) or give None
 
--- assign | "{" assign { "," assign } "}"
-unfoldable pub value : ℕ → Phrase x.Initializer
-value d =
-    (do mark_ mark.OpenBrace; found ← separated (expression d part.Assign); mark_ mark.CloseBrace; give (x.Values found))
-    or (do found ← expression d part.Assign; give (x.Value found))
+  -- assign | "{" assign { "," assign } "}"
+  unfoldable pub value : ℕ → Phrase x.Initializer
+  value d =
+      (do mark_ mark.OpenBrace; found ← separated (expression d part.Assign); mark_ mark.CloseBrace; give (x.Values found))
+      or (do found ← expression d part.Assign; give (x.Value found))
 
--- [ "=" ( .. ) ]
-unfoldable pub initializer : ℕ → Phrase x.Initializer
-initializer d = (do equals_; value d) or give x.Nothing
+  -- [ "=" ( .. ) ]
+  unfoldable pub initializer : ℕ → Phrase x.Initializer
+  initializer d = (do equals_; value d) or give x.Nothing
 
--- behind ["*"] NAME
-unfoldable pub declared : ℕ → Place → Bool → List ℕ → Phrase x.Declarator
-declared d at pointer called = do
-  len ← len_of d pointer
-  start ← initializer d
-  give (record { at = at; pointer = pointer; name = called; len = len; initializer = start })
+  -- behind ["*"] NAME
+  unfoldable pub declared : ℕ → Place → Bool → List ℕ → Phrase x.Declarator
+  declared d at pointer called = do
+    len ← len_of d pointer
+    start ← initializer d
+    give (record { at = at; pointer = pointer; name = called; len = len; initializer = start })
 
--- dtor = ["*"] NAME [ "[" cond "]" ] [ "=" ( .. ) ]
-unfoldable pub declarator : ℕ → Base → Phrase x.Declarator
-declarator d base = placed (λ at. do
-  pointer ← star base
-  called ← name_
-  declared d at pointer called)
+  -- dtor = ["*"] NAME [ "[" cond "]" ] [ "=" ( .. ) ]
+  unfoldable pub declarator : ℕ → Base → Phrase x.Declarator
+  declarator d base = placed (λ at. do
+    pointer ← star base
+    called ← name_
+    declared d at pointer called)
 
--- decl = ["static"] base dtor { "," dtor } ";"
-unfoldable pub declaration_at : ℕ → Place → Phrase x.Declaration
-declaration_at d at = do
-  is_static ← flag (key_ key.Static)
-  base ← type_base
-  found ← separated (declarator d base)
-  mark_ mark.Semicolon
-  give (record { at = at; is_static = is_static; base = base; declarators = found })
+  -- decl = ["static"] base dtor { "," dtor } ";"
+  unfoldable pub declaration_at : ℕ → Place → Phrase x.Declaration
+  declaration_at d at = do
+    is_static ← flag (key_ key.Static)
+    base ← type_base
+    found ← separated (declarator d base)
+    mark_ mark.Semicolon
+    give (record { at = at; is_static = is_static; base = base; declarators = found })
 
--- a declaration, told where it begins
-unfoldable pub declaration : ℕ → Phrase x.Declaration
-declaration d = placed (declaration_at d)
+  -- a declaration, told where it begins
+  unfoldable pub declaration : ℕ → Phrase x.Declaration
+  declaration d = placed (declaration_at d)
 
 -- ---- parameters
 

@@ -1,5 +1,6 @@
 -- How expressions are read (C99, section 6.5).
 use Rattle.std.specs.Prelude.{ℕ, zero, suc, Bool, true, false, if◌then◌else◌, List, [], ◌∷◌, Option, Some, None, is_some, not, ◌&&◌, ◌||◌}
+use Rattle.mpc_values.specs.declared.limits.TheConstants.{MAX_EXPRESSION_TOKENS}
 use Rattle.c_tree.specs.declared.syntax.Place.{Place}
 use Rattle.c_tree.specs.declared.syntax.Base.{Base}
 use Rattle.c_tree.specs.declared.syntax.Base.TheVariants as base
@@ -235,4 +236,4 @@ expr d = reading (nest d)
 
 -- an expression that no larger one covers
 unfoldable pub expression : ℕ → Part → Reader x.Expr
-expression d part = within 1024 (expr d part)
+expression d part = within MAX_EXPRESSION_TOKENS (expr d part)

@@ -1,5 +1,6 @@
 -- The productions of types and expressions, one definition each, and the words that all productions are written with (C99, section 6.5).
 use Rattle.std.specs.Prelude.{ℕ, ℤ, zero, suc, Bool, true, false, List, [], ◌∷◌, ◌++◌, Option, Some, None, if◌then◌else◌}
+use Rattle.mpc_values.specs.declared.limits.TheConstants.{MAX_EXPRESSION_TOKENS}
 use Rattle.c_tree.specs.declared.syntax.Place.{Place}
 use Rattle.c_tree.specs.declared.syntax.Base.{Base}
 use Rattle.c_tree.specs.declared.syntax.Base.TheVariants as base
@@ -239,6 +240,6 @@ nest (suc d) = record { deep = true; below = production (nest d) }
 unfoldable pub expr : ℕ → Part → Phrase x.Expr
 expr d = production (nest d)
 
--- an expression that no larger one covers has at most 1,024 symbols
+-- an expression that no larger one covers, of at most 1,024 symbols
 unfoldable pub expression : ℕ → Part → Phrase x.Expr
-expression d p = at_most 1024 (expr d p)
+expression d p = at_most MAX_EXPRESSION_TOKENS (expr d p)

@@ -4,15 +4,16 @@ pub mod Declarations
 pub mod Expressions
 pub mod Grammar
 pub mod Insides
+pub mod Laws
 pub mod Nests
 pub mod Parsed
 pub mod Phrases
 pub mod Places
 pub mod Reading
+pub mod Seen
 pub mod Signs
 pub mod SourceGrammar
 pub mod Sources
-pub mod Spellings
 pub mod StatementGrammar
 pub mod Statements
 pub mod Symbols

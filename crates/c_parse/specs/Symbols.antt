@@ -1,6 +1,9 @@
 -- What the grammar sees of the tokens of a source.
-use Rattle.std.specs.Prelude.{◌≡◌, ℕ, cond, Bool, List, [], ◌∷◌, ◌++◌, map, take, drop, Some, None, codes}
-use Rattle.std.specs.Str.{bytes_eq}
+use Rattle.std.specs.Prelude.{◌≡◌, ℕ, Bool, List, [], ◌∷◌, map, take, drop, Some, None}
+use Rattle.c_lex.specs.declared.keys.Key.{Key as Word}
+use Rattle.c_lex.specs.declared.keys.Key.TheVariants as word
+use Rattle.c_lex.specs.declared.signs.Sign.{Sign}
+use Rattle.c_lex.specs.declared.signs.Sign.TheVariants as sign
 use Rattle.c_lex.specs.declared.tokens.Token.{Token}
 use Rattle.c_lex.specs.declared.tokens.Kind.TheVariants as kind
 use Rattle.hls_pragma.specs.declared.directives.NameSpan.{NameSpan}
@@ -28,94 +31,78 @@ pub record Sym : Type 0 where
 abbrev pub sym_of : List ℕ → Symbol → Sym
 sym_of src s = record { at = s.at; class = s.class; bytes = take s.len (drop s.start src); names = s.names }
 
--- a key or a sign, and what it is
-abbrev pub Spelling : Type 0
-Spelling = List ℕ × Class
+-- what a key is to the grammar; no production uses the other keys
+unfoldable pub key_class : Word → Class
+key_class word.Int = class.Key key.Int
+key_class word.Long = class.Key key.Long
+key_class word.Void = class.Key key.Void
+key_class word.Char = class.Key key.Char
+key_class word.Static = class.Key key.Static
+key_class word.If = class.Key key.If
+key_class word.Else = class.Key key.Else
+key_class word.While = class.Key key.While
+key_class word.Do = class.Key key.Do
+key_class word.For = class.Key key.For
+key_class word.Return = class.Key key.Return
+key_class word.Break = class.Key key.Break
+key_class word.Continue = class.Key key.Continue
+key_class word.SizeOf = class.Key key.SizeOf
+key_class word.Comm = class.Key key.Comm
+key_class word.Request = class.Key key.Request
+key_class word.Status = class.Key key.Status
+key_class k = class.Other
 
--- the keys that productions use
-abbrev pub keys : List Spelling
-keys =
-    (codes "int", class.Key key.Int) ∷
-    (codes "long", class.Key key.Long) ∷
-    (codes "void", class.Key key.Void) ∷
-    (codes "char", class.Key key.Char) ∷
-    (codes "static", class.Key key.Static) ∷
-    (codes "if", class.Key key.If) ∷
-    (codes "else", class.Key key.Else) ∷
-    (codes "while", class.Key key.While) ∷
-    (codes "do", class.Key key.Do) ∷
-    (codes "for", class.Key key.For) ∷
-    (codes "return", class.Key key.Return) ∷
-    (codes "break", class.Key key.Break) ∷
-    (codes "continue", class.Key key.Continue) ∷
-    (codes "sizeof", class.Key key.SizeOf) ∷
-    (codes "MPI_Comm", class.Key key.Comm) ∷
-    (codes "MPI_Request", class.Key key.Request) ∷
-    (codes "MPI_Status", class.Key key.Status) ∷
-    []
+-- what a sign that stands between operands is to the grammar: one that computes, or that computes and assigns
+unfoldable pub operator_class : Sign → Class
+operator_class sign.Star = class.Binary binary.Multiply
+operator_class sign.Slash = class.Binary binary.Divide
+operator_class sign.Percent = class.Binary binary.Remainder
+operator_class sign.Plus = class.Binary binary.Add
+operator_class sign.Minus = class.Binary binary.Subtract
+operator_class sign.ShiftLeft = class.Binary binary.ShiftLeft
+operator_class sign.ShiftRight = class.Binary binary.ShiftRight
+operator_class sign.Less = class.Binary binary.Less
+operator_class sign.Greater = class.Binary binary.Greater
+operator_class sign.LessEqual = class.Binary binary.LessEqual
+operator_class sign.GreaterEqual = class.Binary binary.GreaterEqual
+operator_class sign.Equal = class.Binary binary.Equal
+operator_class sign.NotEqual = class.Binary binary.NotEqual
+operator_class sign.Ampersand = class.Binary binary.BitAnd
+operator_class sign.Caret = class.Binary binary.BitXor
+operator_class sign.Bar = class.Binary binary.BitOr
+operator_class sign.LogicalAnd = class.Binary binary.And
+operator_class sign.LogicalOr = class.Binary binary.Or
+operator_class sign.MultiplyAssign = class.Assign (Some binary.Multiply)
+operator_class sign.DivideAssign = class.Assign (Some binary.Divide)
+operator_class sign.RemainderAssign = class.Assign (Some binary.Remainder)
+operator_class sign.AddAssign = class.Assign (Some binary.Add)
+operator_class sign.SubtractAssign = class.Assign (Some binary.Subtract)
+operator_class sign.ShiftLeftAssign = class.Assign (Some binary.ShiftLeft)
+operator_class sign.ShiftRightAssign = class.Assign (Some binary.ShiftRight)
+operator_class sign.AndAssign = class.Assign (Some binary.BitAnd)
+operator_class sign.XorAssign = class.Assign (Some binary.BitXor)
+operator_class sign.OrAssign = class.Assign (Some binary.BitOr)
+operator_class s = class.Other
 
--- the signs that are no operators
-abbrev pub marks : List Spelling
-marks =
-    (codes "(", class.Mark mark.Open) ∷
-    (codes ")", class.Mark mark.Close) ∷
-    (codes "[", class.Mark mark.OpenSquare) ∷
-    (codes "]", class.Mark mark.CloseSquare) ∷
-    (codes "{", class.Mark mark.OpenBrace) ∷
-    (codes "}", class.Mark mark.CloseBrace) ∷
-    (codes ";", class.Mark mark.Semicolon) ∷
-    (codes ",", class.Mark mark.Comma) ∷
-    (codes ".", class.Mark mark.Dot) ∷
-    (codes "?", class.Mark mark.Question) ∷
-    (codes ":", class.Mark mark.Colon) ∷
-    []
-
--- the operators, the computing assignments with what they compute by
-abbrev pub operators : List Spelling
-operators =
-    (codes "*", class.Binary binary.Multiply) ∷
-    (codes "/", class.Binary binary.Divide) ∷
-    (codes "%", class.Binary binary.Remainder) ∷
-    (codes "+", class.Binary binary.Add) ∷
-    (codes "-", class.Binary binary.Subtract) ∷
-    (codes "<<", class.Binary binary.ShiftLeft) ∷
-    (codes ">>", class.Binary binary.ShiftRight) ∷
-    (codes "<", class.Binary binary.Less) ∷
-    (codes ">", class.Binary binary.Greater) ∷
-    (codes "<=", class.Binary binary.LessEqual) ∷
-    (codes ">=", class.Binary binary.GreaterEqual) ∷
-    (codes "==", class.Binary binary.Equal) ∷
-    (codes "!=", class.Binary binary.NotEqual) ∷
-    (codes "&", class.Binary binary.BitAnd) ∷
-    (codes "^", class.Binary binary.BitXor) ∷
-    (codes "|", class.Binary binary.BitOr) ∷
-    (codes "&&", class.Binary binary.And) ∷
-    (codes "||", class.Binary binary.Or) ∷
-    (codes "!", class.Unary unary.Not) ∷
-    (codes "~", class.Unary unary.Complement) ∷
-    (codes "++", class.Change change.Increment) ∷
-    (codes "--", class.Change change.Decrement) ∷
-    (codes "=", class.Assign None) ∷
-    (codes "*=", class.Assign (Some binary.Multiply)) ∷
-    (codes "/=", class.Assign (Some binary.Divide)) ∷
-    (codes "%=", class.Assign (Some binary.Remainder)) ∷
-    (codes "+=", class.Assign (Some binary.Add)) ∷
-    (codes "-=", class.Assign (Some binary.Subtract)) ∷
-    (codes "<<=", class.Assign (Some binary.ShiftLeft)) ∷
-    (codes ">>=", class.Assign (Some binary.ShiftRight)) ∷
-    (codes "&=", class.Assign (Some binary.BitAnd)) ∷
-    (codes "^=", class.Assign (Some binary.BitXor)) ∷
-    (codes "|=", class.Assign (Some binary.BitOr)) ∷
-    []
-
--- what these bytes are, by the first of some spellings that they have
-abbrev pub spelt : List Spelling → List ℕ → Class
-spelt [] word = class.Other
-spelt (s ∷ more) word = cond (bytes_eq word s.0) s.1 (spelt more word)
-
--- what a key or a sign is
-unfoldable pub class_of : List ℕ → Class
-class_of word = spelt (keys ++ (marks ++ operators)) word
+-- what a sign is to the grammar
+unfoldable pub sign_class : Sign → Class
+sign_class sign.OpenParenthesis = class.Mark mark.Open
+sign_class sign.CloseParenthesis = class.Mark mark.Close
+sign_class sign.OpenBracket = class.Mark mark.OpenSquare
+sign_class sign.CloseBracket = class.Mark mark.CloseSquare
+sign_class sign.OpenBrace = class.Mark mark.OpenBrace
+sign_class sign.CloseBrace = class.Mark mark.CloseBrace
+sign_class sign.Semicolon = class.Mark mark.Semicolon
+sign_class sign.Comma = class.Mark mark.Comma
+sign_class sign.Dot = class.Mark mark.Dot
+sign_class sign.Question = class.Mark mark.Question
+sign_class sign.Colon = class.Mark mark.Colon
+sign_class sign.Exclamation = class.Unary unary.Not
+sign_class sign.Tilde = class.Unary unary.Complement
+sign_class sign.Increment = class.Change change.Increment
+sign_class sign.Decrement = class.Change change.Decrement
+sign_class sign.Assign = class.Assign None
+sign_class s = operator_class s
 
 -- the bytes of a token
 abbrev pub bytes_of : List ℕ → Token → List ℕ
@@ -130,8 +117,8 @@ pub data Shows (src : List ℕ) (t : Token) : Class → List (List ℕ) → Type
   as_name : t.kind ≡ kind.Name → Shows src t class.Name []
   as_number : (value : _) (long : Bool) → t.kind ≡ kind.Number value long → Shows src t (class.Number value long) []
   as_text : t.kind ≡ kind.Text → Shows src t class.Text []
-  as_key : t.kind ≡ kind.Key → Shows src t (class_of (bytes_of src t)) []
-  as_sign : t.kind ≡ kind.Sign → Shows src t (class_of (bytes_of src t)) []
+  as_key : (k : Word) → t.kind ≡ kind.Key k → Shows src t (key_class k) []
+  as_sign : (s : Sign) → t.kind ≡ kind.Sign s → Shows src t (sign_class s) []
   as_scope : (level : _) (names : List NameSpan) → t.kind ≡ kind.Pragma → Reads (bytes_of src t) (pragma.Scope level names) → Shows src t (class.Scope level) (named_in (bytes_of src t) names)
   as_single : (names : List NameSpan) (nowait : Bool) → t.kind ≡ kind.Pragma → Reads (bytes_of src t) (pragma.Single names nowait) → Shows src t (class.Single nowait) (named_in (bytes_of src t) names)
   as_barrier : (names : List NameSpan) → t.kind ≡ kind.Pragma → Reads (bytes_of src t) (pragma.Barrier names) → Shows src t class.Barrier (named_in (bytes_of src t) names)

@@ -7,10 +7,8 @@ use crate::cursor::Cursor;
 use crate::grammar::{Grammar, Part};
 use crate::stops::Stop;
 use c_tree::syntax::Expr;
+use mpc_values::limits::MAX_EXPRESSION_TOKENS;
 use std::alloc::Global;
-
-// How many tokens an expression may have.
-const MOST: usize = 1024;
 
 /// A part of a marked production, in which so many marked productions may stand in one another.
 pub fn expr(alloc: Global, cursor: &mut Cursor<'_>, depth: usize, part: Part) -> Result<Expr, Stop>
@@ -30,15 +28,15 @@ pub fn expression(
 ) -> Result<Expr, Stop>
     ensures { Reads expr_of (spec.expression depth part cursor.old) result cursor.new }
 {
-    let mut window = cursor.window(MOST + 1);
+    let mut window = cursor.window(MAX_EXPRESSION_TOKENS + 1);
     let before = window.left();
     let read = expr(alloc, &mut window, depth, part);
     let taken = before.saturating_sub(window.left());
-    if taken <= MOST {
+    if taken <= MAX_EXPRESSION_TOKENS {
         cursor.skip(taken);
         return read;
     }
-    cursor.skip(MOST);
+    cursor.skip(MAX_EXPRESSION_TOKENS);
     match read {
         Err(Stop::Memory) => Err(Stop::Memory),
         _ => Err(Stop::Refused),

@@ -10,6 +10,7 @@ mod cursor;
 mod declarations;
 mod expressions;
 mod grammar;
+mod laws;
 mod nodes;
 mod params;
 mod parser;
@@ -24,6 +25,7 @@ mod tokens;
 mod types;
 mod unaries;
 
+pub use laws::parsing_laws;
 pub use parser::parse;
 pub use refusals::ParseRefusal;
 

@@ -1,6 +1,7 @@
 //! From the tokens of a source to its tree.
 ghost use Rattle.std.specs.Prelude.{◌≡◌, ◌≤◌, length, IfOk, IfErr, MatchResult};
 ghost use Rattle.c_lex.specs.Places.{behind, start};
+ghost use Rattle.mpc_values.specs.declared.limits.TheConstants.{MAX_SOURCE_BYTES};
 ghost use Rattle.c_tree.specs.Syntax as x;
 ghost use Rattle.c_tree.specs.SyntaxOf.{tree_of};
 ghost use Rattle.c_parse.specs.declared.refusals.ParseRefusal.{ParseRefusal as Refusal};
@@ -15,12 +16,13 @@ use crate::symbols::Class;
 use crate::tokens::symbols;
 use c_lex::Token;
 use c_tree::syntax::{Place, Tree};
+use hls_pragma::reading_laws;
 use mpc_values::Memory;
 use std::alloc::Global;
 
 // The place just behind the last byte.
 fn end_of(src: &[u8]) -> Place
-    requires { length src.now ≤ 1048576 }
+    requires { length src.now ≤ MAX_SOURCE_BYTES }
     ensures line { result.line ≡ (behind start src.now).line }
     ensures col { result.col ≡ (behind start src.now).col }
 {
@@ -39,7 +41,7 @@ fn end_of(src: &[u8]) -> Place
 
 // What refuses a source that cannot go on with the next symbol.
 fn refusal(src: &[u8], cursor: &Cursor<'_>) -> ParseRefusal
-    requires { length src.now ≤ 1048576 }
+    requires { length src.now ≤ MAX_SOURCE_BYTES }
     ensures { result ≡ spec.refusal_at src.now cursor.now }
 {
     if cursor.is_over() {
@@ -56,14 +58,14 @@ fn refusal(src: &[u8], cursor: &Cursor<'_>) -> ParseRefusal
 /// The tree of a source of at most 1,048,576 bytes, from its tokens (C99, sections 6.5 to 6.9):
 /// there is one exactly where the tokens spell it. Else the refusal names the first token with which
 /// the tokens are no front of a source any more, or that is the 1,025th of its expression, or the end
-/// of the source where there is none; and a refused pragma that stands there by its line. An outer
-/// error stands for want of memory.
+/// of the source where there is none; and a refused pragma that stands there by its line. The outer
+/// error comes for want of memory.
 pub fn parse(
     alloc: Global,
     src: &[u8],
     tokens: &[Token],
 ) -> Result<Result<Tree, ParseRefusal>, Memory>
-    requires { length src.now ≤ 1048576 }
+    requires { length src.now ≤ MAX_SOURCE_BYTES }
     ensures tree { IfOk result (λ r. IfOk r (λ t. Spelt src.now tokens.now (tree_of t))) }
     ensures refused { IfOk result (λ r. IfErr r (RefusedAt src.now tokens.now)) }
 
@@ -75,6 +77,7 @@ pub fn parse(
         (λ _. (q : Refusal) → RefusedAt src.now tokens.now q → ⊥)
         (λ p. (q : Refusal) → RefusedAt src.now tokens.now q → q ≡ p)) }
 {
+    reading_laws();
     let symbols = symbols(alloc, src, tokens)?;
     let mut cursor = Cursor::new(src, symbols.as_slice());
     match source(alloc, &mut cursor) {

@@ -13,11 +13,9 @@ use crate::stops::Stop;
 use crate::symbols::{Class, Key, Mark};
 use crate::types::{star, type_base};
 use c_tree::Identifier;
+use mpc_values::limits::MAX_NESTING;
 use c_tree::syntax::{Base, Body, Function, Item, Place, Returns, Stmt, Tree, TypeName};
 use std::alloc::Global;
-
-// How many marked productions may stand in one another.
-const MOST_DEEP: usize = 128;
 
 /// A statement, in which so many marked productions may stand in one another.
 pub fn stmt(alloc: Global, cursor: &mut Cursor<'_>, depth: usize) -> Result<Stmt, Stop>
@@ -36,7 +34,7 @@ fn definition(alloc: Global, cursor: &mut Cursor<'_>) -> Result<Option<Body>, St
     }
     let statements = Statements {
         alloc,
-        depth: MOST_DEEP,
+        depth: MAX_NESTING,
         stmt,
     };
     let body = statements.body(cursor)?;
@@ -82,8 +80,8 @@ fn variables(
 ) -> Result<Item, Stop>
     ensures { Reads item_of (spec.variables at is_static base from pointer name cursor.old) result cursor.new }
 {
-    let first = declared(alloc, cursor, MOST_DEEP, from, pointer, name)?;
-    let found = declaration_from(alloc, cursor, MOST_DEEP, at, is_static, base, first)?;
+    let first = declared(alloc, cursor, MAX_NESTING, from, pointer, name)?;
+    let found = declaration_from(alloc, cursor, MAX_NESTING, at, is_static, base, first)?;
     Ok(Item::Declare(found))
 }
 

@@ -7,6 +7,7 @@ use crate::{ParseRefusal, parse};
 use c_lex::lex;
 use c_tree::syntax::Tree;
 use mpc_values::Memory;
+use mpc_values::limits::MAX_SOURCE_BYTES;
 use std::alloc::Global;
 
 /// How a source is answered.
@@ -22,7 +23,7 @@ enum Verdict {
 // The tree of a source, or how it is refused.
 fn parsed(alloc: Global, src: &str) -> Result<Result<Tree, Verdict>, Memory> {
     let src = src.as_bytes();
-    if src.len() > 1_048_576 {
+    if src.len() > MAX_SOURCE_BYTES {
         return Ok(Err(Verdict::NoTokens));
     }
     let tokens = match lex(alloc, src)? {

@@ -2,97 +2,106 @@
 ghost use Rattle.std.specs.Prelude.{◌≡◌, [], IfOk, length, take, drop, map};
 ghost use Rattle.c_parse.specs.Symbols as spec;
 ghost use Rattle.c_parse.specs.Symbols.{Symbols, sym_of};
-ghost use Rattle.c_parse.specs.Spellings.{Sees, made, spelling_of};
+ghost use Rattle.c_parse.specs.Seen.{Sees, made};
 
 use crate::symbols::{Class, Key, Mark, Symbol};
-use c_lex::{Kind, Token};
+use c_lex::{Key as Word, Kind, Sign, Token};
 use c_tree::syntax::{Binary, Change, Place, Unary};
 use c_tree::{Identifier, Identifiers};
 use hls_pragma::{Names, Pragma, read_pragma};
 use mpc_values::Memory;
 use std::alloc::Global;
 
-/// The keys and signs that productions use, and what each is.
-pub const SPELLINGS: [(&str, Class); 61] = [
-    ("int", Class::Key(Key::Int)),
-    ("long", Class::Key(Key::Long)),
-    ("void", Class::Key(Key::Void)),
-    ("char", Class::Key(Key::Char)),
-    ("static", Class::Key(Key::Static)),
-    ("if", Class::Key(Key::If)),
-    ("else", Class::Key(Key::Else)),
-    ("while", Class::Key(Key::While)),
-    ("do", Class::Key(Key::Do)),
-    ("for", Class::Key(Key::For)),
-    ("return", Class::Key(Key::Return)),
-    ("break", Class::Key(Key::Break)),
-    ("continue", Class::Key(Key::Continue)),
-    ("sizeof", Class::Key(Key::SizeOf)),
-    ("MPI_Comm", Class::Key(Key::Comm)),
-    ("MPI_Request", Class::Key(Key::Request)),
-    ("MPI_Status", Class::Key(Key::Status)),
-    ("(", Class::Mark(Mark::Open)),
-    (")", Class::Mark(Mark::Close)),
-    ("[", Class::Mark(Mark::OpenSquare)),
-    ("]", Class::Mark(Mark::CloseSquare)),
-    ("{", Class::Mark(Mark::OpenBrace)),
-    ("}", Class::Mark(Mark::CloseBrace)),
-    (";", Class::Mark(Mark::Semicolon)),
-    (",", Class::Mark(Mark::Comma)),
-    (".", Class::Mark(Mark::Dot)),
-    ("?", Class::Mark(Mark::Question)),
-    (":", Class::Mark(Mark::Colon)),
-    ("*", Class::Binary(Binary::Multiply)),
-    ("/", Class::Binary(Binary::Divide)),
-    ("%", Class::Binary(Binary::Remainder)),
-    ("+", Class::Binary(Binary::Add)),
-    ("-", Class::Binary(Binary::Subtract)),
-    ("<<", Class::Binary(Binary::ShiftLeft)),
-    (">>", Class::Binary(Binary::ShiftRight)),
-    ("<", Class::Binary(Binary::Less)),
-    (">", Class::Binary(Binary::Greater)),
-    ("<=", Class::Binary(Binary::LessEqual)),
-    (">=", Class::Binary(Binary::GreaterEqual)),
-    ("==", Class::Binary(Binary::Equal)),
-    ("!=", Class::Binary(Binary::NotEqual)),
-    ("&", Class::Binary(Binary::BitAnd)),
-    ("^", Class::Binary(Binary::BitXor)),
-    ("|", Class::Binary(Binary::BitOr)),
-    ("&&", Class::Binary(Binary::And)),
-    ("||", Class::Binary(Binary::Or)),
-    ("!", Class::Unary(Unary::Not)),
-    ("~", Class::Unary(Unary::Complement)),
-    ("++", Class::Change(Change::Increment)),
-    ("--", Class::Change(Change::Decrement)),
-    ("=", Class::Assign(None)),
-    ("*=", Class::Assign(Some(Binary::Multiply))),
-    ("/=", Class::Assign(Some(Binary::Divide))),
-    ("%=", Class::Assign(Some(Binary::Remainder))),
-    ("+=", Class::Assign(Some(Binary::Add))),
-    ("-=", Class::Assign(Some(Binary::Subtract))),
-    ("<<=", Class::Assign(Some(Binary::ShiftLeft))),
-    (">>=", Class::Assign(Some(Binary::ShiftRight))),
-    ("&=", Class::Assign(Some(Binary::BitAnd))),
-    ("^=", Class::Assign(Some(Binary::BitXor))),
-    ("|=", Class::Assign(Some(Binary::BitOr))),
-];
-
-// What a word is, by the first of the spellings that is this word.
-fn spelt(spellings: &[(&str, Class)], word: &[u8]) -> Class
-    ensures { result ≡ spec.spelt (map spelling_of spellings.now) word.now }
+// What a key is to the grammar.
+#[tactic(auto, unfolding(crate::specs::Symbols::key_class))]
+fn key_class(key: Word) -> Class
+    ensures { result ≡ spec.key_class key }
 {
-    for (text, class) in spellings {
-        if word == text.as_bytes() {
-            return *class;
-        }
-    }
-    Class::Other
+    let key = match key {
+        Word::Int => Key::Int,
+        Word::Long => Key::Long,
+        Word::Void => Key::Void,
+        Word::Char => Key::Char,
+        Word::Static => Key::Static,
+        Word::If => Key::If,
+        Word::Else => Key::Else,
+        Word::While => Key::While,
+        Word::Do => Key::Do,
+        Word::For => Key::For,
+        Word::Return => Key::Return,
+        Word::Break => Key::Break,
+        Word::Continue => Key::Continue,
+        Word::SizeOf => Key::SizeOf,
+        Word::Comm => Key::Comm,
+        Word::Request => Key::Request,
+        Word::Status => Key::Status,
+        _ => return Class::Other,
+    };
+    Class::Key(key)
 }
 
-fn class_of(word: &[u8]) -> Class
-    ensures { result ≡ spec.class_of word.now }
+// What a sign that stands between operands is to the grammar.
+#[tactic(auto, unfolding(crate::specs::Symbols::operator_class))]
+fn operator_class(sign: Sign) -> Class
+    ensures { result ≡ spec.operator_class sign }
 {
-    spelt(&SPELLINGS, word)
+    match sign {
+        Sign::Star => Class::Binary(Binary::Multiply),
+        Sign::Slash => Class::Binary(Binary::Divide),
+        Sign::Percent => Class::Binary(Binary::Remainder),
+        Sign::Plus => Class::Binary(Binary::Add),
+        Sign::Minus => Class::Binary(Binary::Subtract),
+        Sign::ShiftLeft => Class::Binary(Binary::ShiftLeft),
+        Sign::ShiftRight => Class::Binary(Binary::ShiftRight),
+        Sign::Less => Class::Binary(Binary::Less),
+        Sign::Greater => Class::Binary(Binary::Greater),
+        Sign::LessEqual => Class::Binary(Binary::LessEqual),
+        Sign::GreaterEqual => Class::Binary(Binary::GreaterEqual),
+        Sign::Equal => Class::Binary(Binary::Equal),
+        Sign::NotEqual => Class::Binary(Binary::NotEqual),
+        Sign::Ampersand => Class::Binary(Binary::BitAnd),
+        Sign::Caret => Class::Binary(Binary::BitXor),
+        Sign::Bar => Class::Binary(Binary::BitOr),
+        Sign::LogicalAnd => Class::Binary(Binary::And),
+        Sign::LogicalOr => Class::Binary(Binary::Or),
+        Sign::MultiplyAssign => Class::Assign(Some(Binary::Multiply)),
+        Sign::DivideAssign => Class::Assign(Some(Binary::Divide)),
+        Sign::RemainderAssign => Class::Assign(Some(Binary::Remainder)),
+        Sign::AddAssign => Class::Assign(Some(Binary::Add)),
+        Sign::SubtractAssign => Class::Assign(Some(Binary::Subtract)),
+        Sign::ShiftLeftAssign => Class::Assign(Some(Binary::ShiftLeft)),
+        Sign::ShiftRightAssign => Class::Assign(Some(Binary::ShiftRight)),
+        Sign::AndAssign => Class::Assign(Some(Binary::BitAnd)),
+        Sign::XorAssign => Class::Assign(Some(Binary::BitXor)),
+        Sign::OrAssign => Class::Assign(Some(Binary::BitOr)),
+        _ => Class::Other,
+    }
+}
+
+// What a sign is to the grammar.
+#[tactic(auto, unfolding(crate::specs::Symbols::sign_class))]
+fn sign_class(sign: Sign) -> Class
+    ensures { result ≡ spec.sign_class sign }
+{
+    match sign {
+        Sign::OpenParenthesis => Class::Mark(Mark::Open),
+        Sign::CloseParenthesis => Class::Mark(Mark::Close),
+        Sign::OpenBracket => Class::Mark(Mark::OpenSquare),
+        Sign::CloseBracket => Class::Mark(Mark::CloseSquare),
+        Sign::OpenBrace => Class::Mark(Mark::OpenBrace),
+        Sign::CloseBrace => Class::Mark(Mark::CloseBrace),
+        Sign::Semicolon => Class::Mark(Mark::Semicolon),
+        Sign::Comma => Class::Mark(Mark::Comma),
+        Sign::Dot => Class::Mark(Mark::Dot),
+        Sign::Question => Class::Mark(Mark::Question),
+        Sign::Colon => Class::Mark(Mark::Colon),
+        Sign::Exclamation => Class::Unary(Unary::Not),
+        Sign::Tilde => Class::Unary(Unary::Complement),
+        Sign::Increment => Class::Change(Change::Increment),
+        Sign::Decrement => Class::Change(Change::Decrement),
+        Sign::Assign => Class::Assign(None),
+        _ => operator_class(sign),
+    }
 }
 
 /// So many bytes from a place on, as far as there are.
@@ -167,13 +176,6 @@ fn alone(alloc: Global, token: &Token, class: Class) -> Symbol
     symbol(token, class, Identifiers::of(Vec::new(alloc)))
 }
 
-// The symbol of a key or a sign.
-fn word_symbol(alloc: Global, src: &[u8], token: &Token) -> Symbol
-    ensures { result ≡ made token.now (spec.class_of (spec.bytes_of src.now token.now)) [] }
-{
-    alone(alloc, token, class_of(part(src, token.start, token.len)))
-}
-
 // The symbol of a token; a foreign pragma has none.
 fn symbol_of(alloc: Global, src: &[u8], token: Token) -> Result<Option<Symbol>, Memory>
     ensures { IfOk result (Sees src.now token) }
@@ -183,8 +185,8 @@ fn symbol_of(alloc: Global, src: &[u8], token: Token) -> Result<Option<Symbol>, 
         Kind::Name => Ok(Some(alone(alloc, &token, Class::Name))),
         Kind::Number { value, long } => Ok(Some(alone(alloc, &token, Class::Number(value, long)))),
         Kind::Text => Ok(Some(alone(alloc, &token, Class::Text))),
-        Kind::Key => Ok(Some(word_symbol(alloc, src, &token))),
-        Kind::Sign => Ok(Some(word_symbol(alloc, src, &token))),
+        Kind::Key(key) => Ok(Some(alone(alloc, &token, key_class(key)))),
+        Kind::Sign(sign) => Ok(Some(alone(alloc, &token, sign_class(sign)))),
     }
 }
 

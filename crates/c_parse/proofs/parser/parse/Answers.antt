@@ -2,7 +2,7 @@ use Rattle.std.proofs.Common.{◌≡◌, map, sym, ap, ◌∙◌, subst}
 use Rattle.c_tree.specs.SyntaxOf.{tree_of}
 use Rattle.c_parse.specs.Symbols.{Symbols, sym_of}
 use Rattle.c_parse.specs.Parsed.{Spelt, RefusedAt}
-use Rattle.c_parse.proofs.Laws.{spelt_by, same_tree, same_refusal, never_both}
+use Rattle.c_parse.proofs.OneAnswer.{spelt_by, same_tree, same_refusal, never_both}
 use Rattle.c_parse.proofs.Refused.{refused_there}
 use Rattle.c_parse.proofs.parser.parse.Goals as goal
 
@@ -16,8 +16,8 @@ returns-in-Ok c =
     record {
       tree = spelt;
       refused = tt;
-      only_tree = λ u other. same_tree src ts u (tree_of c.in-Ok.tree) other spelt;
-      only_refusal = λ q refused. never_both src ts (tree_of c.in-Ok.tree) q spelt refused;
+      only_tree = λ u other. same_tree c.reading_laws.ensures src ts u (tree_of c.in-Ok.tree) other spelt;
+      only_refusal = λ q refused. never_both c.reading_laws.ensures src ts (tree_of c.in-Ok.tree) q spelt refused;
     }
 
 pub returns-in-Err-Refused : goal.returns-in-Err-Refused
@@ -30,6 +30,6 @@ returns-in-Err-Refused c =
     record {
       tree = tt;
       refused = refused;
-      only_tree = λ u spelt. never_both src ts u c.refusal.result spelt refused;
-      only_refusal = λ q other. same_refusal src ts q c.refusal.result other refused;
+      only_tree = λ u spelt. never_both c.reading_laws.ensures src ts u c.refusal.result spelt refused;
+      only_refusal = λ q other. same_refusal c.reading_laws.ensures src ts q c.refusal.result other refused;
     }

@@ -1,5 +1,5 @@
 use Rattle.std.proofs.Common.{ap, ◌∙◌, subst}
-use Rattle.c_parse.specs.Spellings.{Sees}
+use Rattle.c_parse.specs.Seen.{Sees}
 use Rattle.c_parse.proofs.Shown.{step_some, step_none, at_the_end}
 use Rattle.c_parse.proofs.tokens.symbols.Goals as goal
 use Rattle.c_parse.proofs.tokens.symbols.Goals.{in-Some+in_ok-push, in_default}

@@ -1,16 +1,12 @@
--- What the code's table of spellings and its symbol of one token stand for.
+-- What the code's symbol of one token stands for.
 use Rattle.std.specs.Prelude.{◌≡◌, List, ℕ, Option, Some, None}
-use denote.Ref.{Bor}
 use Rattle.c_lex.specs.declared.tokens.Token.{Token}
 use Rattle.c_lex.specs.declared.tokens.Kind.TheVariants as kind
 use Rattle.hls_pragma.specs.declared.directives.Pragma.TheVariants.{Foreign}
 use Rattle.hls_pragma.specs.Reads.{Reads}
 use Rattle.c_parse.specs.declared.symbols.Class.{Class}
 use Rattle.c_parse.specs.declared.symbols.Symbol.{Symbol}
-use Rattle.c_parse.specs.Symbols.{Spelling, Shows, sym_of, symbol_at, bytes_of}
-
-abbrev pub spelling_of : Bor (List ℕ) × Class → Spelling
-spelling_of p = (p.0.now, p.1)
+use Rattle.c_parse.specs.Symbols.{Shows, sym_of, symbol_at, bytes_of}
 
 -- the token gives this symbol, or none where it is a foreign pragma
 abbrev pub Sees : List ℕ → Token → Option Symbol → Type 0
