@@ -20,6 +20,8 @@ use crate::plain::is_plain;
 use crate::refusals::Refusal;
 use crate::sources::{SourceRefusal, accept, accepted_text};
 use crate::statuses::status_of;
+use c_lex::lexing_laws;
+use c_parse::parsing_laws;
 use c_tree::program::Program;
 use journal::report;
 use mpc_base::limits::MAX_SOURCE_BYTES;
@@ -233,5 +235,7 @@ pub fn mpc_serial<F: Files, K: Sink>(
     ensures statuses { is_status result.status ≡ true }
     ensures files { F.told files.new ≡ F.told files.old }
 {
+    lexing_laws();
+    parsing_laws();
     answer(alloc, words, files, out)
 }
