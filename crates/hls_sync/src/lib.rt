@@ -2,6 +2,11 @@
 //! are in specs/, and laws.rt states laws of them.
 #![tactic(auto)]
 
+mod laws;
 mod visits;
 
+pub use laws::{blocks_run_once_in_each_instance, tasks_wait_for_their_instance};
 pub use visits::{HlsRow, Visit};
+
+#[cfg(test)]
+mod tests;

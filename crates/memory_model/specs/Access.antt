@@ -41,7 +41,7 @@ abbrev pub load_in : Objects → Range → Access
 load_in o (Within owner obj at object) = given o (slice_get object.words at)
 load_in o (NoRange fault) = Breaks fault
 
--- A load gives the word of a place. Behind the faults of the range, an unset word is Uninit.
+-- A load gives the word of a place. After the faults of the range, an unset word is Uninit.
 abbrev pub load : (Obj → Owner) → Marks → Objects → Word → Access
 load owner_of marks o at = load_in o (range_of owner_of (barred_to_loads marks) o.memory at 1)
 

@@ -2,3 +2,4 @@ pub mod Arguments
 pub mod Meetings
 pub mod Results
 pub mod Changes
+pub mod Cases

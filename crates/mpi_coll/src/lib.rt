@@ -3,5 +3,12 @@
 #![tactic(auto)]
 
 mod arrivals;
+mod laws;
 
 pub use arrivals::Arrival;
+pub use laws::{
+    arguments_are_looked_at_where_they_count, members_get_their_results, members_meet_in_turn,
+};
+
+#[cfg(test)]
+mod tests;

@@ -3,5 +3,10 @@
 #![tactic(auto)]
 
 mod communicators;
+mod laws;
 
 pub use communicators::{Communicator, Members, View};
+pub use laws::{numbers_are_never_given_again, splits_order_by_colour_and_key};
+
+#[cfg(test)]
+mod tests;

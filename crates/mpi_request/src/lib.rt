@@ -2,6 +2,14 @@
 //! The definitions are in specs/, and laws.rt states laws of them.
 #![tactic(auto)]
 
+mod laws;
 mod requests;
 
+pub use laws::{
+    completed_requests_are_active_no_more, messages_are_whole_or_refused,
+    requests_are_ready_by_their_postings,
+};
 pub use requests::{Awaited, Carried, Request};
+
+#[cfg(test)]
+mod tests;

@@ -10,7 +10,6 @@ pub mod Pending
 pub mod LongMessage
 pub mod Communicators
 pub mod Collectives
-pub mod CollectiveResults
 pub mod FourFolds
 pub mod Sharing
 pub mod Objects

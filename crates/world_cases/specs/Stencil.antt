@@ -82,19 +82,19 @@ all = p.Object 7
 abbrev pub q : p.Expr
 q = p.Object 8
 
--- the ranks before and behind
+-- the ranks before and after
 abbrev pub before : p.Expr
 before = rest (minus (plus (f.load r) (f.load n)) (num 1)) (f.load n)
 
-abbrev pub behind' : p.Expr
-behind' = rest (plus (f.load r) (num 1)) (f.load n)
+abbrev pub next_rank : p.Expr
+next_rank = rest (plus (f.load r) (num 1)) (f.load n)
 
 abbrev pub sweep : p.Stmt
 sweep = p.Block (stmts (
     calls 23 mpi.Irecv (element x (num 0) ∷ num 1 ∷ before ∷ num 1 ∷ word W ∷ element q (num 0) ∷ [])
-    ∷ calls 24 mpi.Irecv (element x (num 5) ∷ num 1 ∷ behind' ∷ num 2 ∷ word W ∷ element q (num 1) ∷ [])
+    ∷ calls 24 mpi.Irecv (element x (num 5) ∷ num 1 ∷ next_rank ∷ num 2 ∷ word W ∷ element q (num 1) ∷ [])
     ∷ calls 25 mpi.Isend (element x (num 1) ∷ num 1 ∷ before ∷ num 2 ∷ word W ∷ element q (num 2) ∷ [])
-    ∷ calls 26 mpi.Isend (element x (num 4) ∷ num 1 ∷ behind' ∷ num 1 ∷ word W ∷ element q (num 3) ∷ [])
+    ∷ calls 26 mpi.Isend (element x (num 4) ∷ num 1 ∷ next_rank ∷ num 1 ∷ word W ∷ element q (num 3) ∷ [])
     ∷ p.Eval 27 (p.Apply (callee.Mpi (record { function = mpi.Waitall; kind = datatype.Int; received = datatype.Int; op = op.Sum; ignored = true })) (exprs (num 4 ∷ q ∷ [])))
     ∷ p.Eval 28 (p.Apply (callee.Function 0) p.End)
     ∷ p.Eval 29 (p.Store mine (num 0))

@@ -11,7 +11,6 @@ ghost use Rattle.world_cases.specs.Pending.{Pending};
 ghost use Rattle.world_cases.specs.LongMessage.{LongMessage};
 ghost use Rattle.world_cases.specs.Communicators.{Communicators};
 ghost use Rattle.world_cases.specs.Collectives.{Collectives};
-ghost use Rattle.world_cases.specs.CollectiveResults.{CollectiveResults};
 ghost use Rattle.world_cases.specs.FourFolds.{FourFolds};
 ghost use Rattle.world_cases.specs.Sharing.{Sharing};
 ghost use Rattle.world_cases.specs.Objects.{Objects};
@@ -71,11 +70,6 @@ pub fn communicators()
 /// What each rank gets of a collective call, who waits, and what differs.
 pub fn collectives()
     ensures { Collectives }
-{}
-
-/// What each rank gets, by what all gave.
-pub fn collective_results()
-    ensures { CollectiveResults }
 {}
 
 /// Four ranks fold by Scan, Exscan and Allreduce.
