@@ -13,8 +13,8 @@ use crate::stops::Stop;
 use crate::symbols::{Class, Key, Mark};
 use crate::types::{star, type_base};
 use c_tree::Identifier;
-use mpc_values::limits::MAX_NESTING;
 use c_tree::syntax::{Base, Body, Function, Item, Place, Returns, Stmt, Tree, TypeName};
+use mpc_values::limits::MAX_NESTING;
 use std::alloc::Global;
 
 /// A statement, in which so many marked productions may stand in one another.

@@ -30,7 +30,11 @@ fn compare(rt: HostRuntime, mode: &str, rows: &[Row]) -> Result<usize> {
             agreed = agreed.saturating_add(1);
         } else {
             let written = String::from_utf8_lossy(rt.alloc(), answer.text.as_slice())?;
-            println!(rt; "{}: status {}, {written}", row.name.as_str(), answer.status)?;
+            println!(rt;
+                "{}: status {}, {written}",
+                row.name.as_str(),
+                answer.status
+            )?;
         }
     }
     Ok(agreed)

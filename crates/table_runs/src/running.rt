@@ -18,7 +18,10 @@ pub fn answer_to(alloc: Global, mode: &str, source: &[u8]) -> Result<Answer, Mem
     words.push(String::from_str(alloc, mode)?)?;
     words.push(String::from_str(alloc, "row.c")?)?;
     let mut stored = BTreeMap::new(alloc);
-    stored.insert(String::from_str(alloc, "row.c")?, Vec::from_slice(alloc, source)?)?;
+    stored.insert(
+        String::from_str(alloc, "row.c")?,
+        Vec::from_slice(alloc, source)?,
+    )?;
     let mut files = MemFiles::new(stored, Vec::new(alloc));
     let mut sink = MemSink::new(alloc, 1_000, 2_000_000, Vec::new(alloc))?;
     let top = mpc_serial(alloc, words.as_slice(), &mut files, &mut sink);
