@@ -25,3 +25,4 @@ pub mod Stepping
 pub mod Fitting
 pub mod Played
 pub mod Scenes
+pub mod Cases

@@ -2,6 +2,8 @@
 ghost use Rattle.std.specs.Prelude.{◌≡◌, ◌≢◌, ℕ, true, List, [], ◌∷◌, ◌++◌, slice_get, Some};
 ghost use Rattle.mpc_base.specs.declared.journals.Entry.{Entry};
 ghost use Rattle.mpc_base.specs.declared.journals.End.TheVariants as end;
+ghost use Rattle.c_tree.specs.Asking.{Misfit};
+ghost use Rattle.c_tree.specs.Next.{next_of};
 ghost use Rattle.run_model.specs.declared.progress.Course.{Course};
 ghost use Rattle.run_model.specs.Setup.{Setup};
 ghost use Rattle.run_model.specs.World.{World};
@@ -9,6 +11,8 @@ ghost use Rattle.run_model.specs.Steps.{Stays, Makes, answers_of};
 ghost use Rattle.run_model.specs.Go.{go, is_blocked};
 ghost use Rattle.run_model.specs.Ending.{ending};
 ghost use Rattle.run_model.specs.Run.{run, ran_step, at_start, order_of, world_of};
+ghost use Rattle.run_model.specs.Cases.{TellingRuns};
+ghost use Rattle.run_model.specs.Fitting.{AsksKnown};
 ghost use Rattle.run_model.specs.Stepping.{IsStep, Bounded, answers_told};
 
 /// A run begins at the start of its setup, and with one task more it goes on by one step of that task.
@@ -50,4 +54,16 @@ pub fn runs_are_bounded()
 pub fn ended_runs_and_blocked_tasks_stay()
     ensures ended { (setup : Setup) (w : World) (task : ℕ) → ending setup w ≢ end.Going → go setup w task ≡ Stays }
     ensures blocked { (setup : Setup) (w : World) (task : ℕ) (course : Course) → slice_get w.log.courses task ≡ Some course → is_blocked setup w task course ≡ true → go setup w task ≡ Stays }
+{}
+
+/// Each answer of a run is of its call's kind, so that a program which enters only singles that it has never gets one that
+/// it cannot read.
+pub fn tasks_never_misfit()
+    ensures { (setup : Setup) → AsksKnown setup → (order : List ℕ) (task : ℕ) → next_of setup.program (answers_of (run setup order).world task) ≢ Misfit }
+{}
+
+/// A few runs, computed: the order of a posting's faults, the marks of an eager send, a run that is stuck and not before,
+/// the limit of calls, an abort, and a collective call.
+pub fn telling_runs()
+    ensures { TellingRuns }
 {}

@@ -10,7 +10,7 @@ mod records;
 pub use laws::{
     answers_are_those_of_own_entries, beginnings_of_legal_runs_are_legal,
     ended_runs_and_blocked_tasks_stay, legal_runs_go_on, runs_are_bounded, runs_go_on_by_one_step,
-    steps_are_of_their_tasks,
+    steps_are_of_their_tasks, tasks_never_misfit, telling_runs,
 };
 pub use offers::{Asked, Offer};
 pub use progress::{Ask, Course, Last, Phase};
