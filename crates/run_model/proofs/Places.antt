@@ -30,7 +30,7 @@ apart_at machine None task other core h e = h (sym same)
     same = cc
 apart_at machine (Some level) task other core h e = cc
 
-own_name : (task other : ℕ) → Task task ≡ Task other → task ≡ other
+pub own_name : (task other : ℕ) → Task task ≡ Task other → task ≡ other
 own_name task other e = cc
 
 -- a task touches no copy of another one's
