@@ -23,13 +23,14 @@ use Rattle.run_model.specs.Owners.{owner_of}
 use Rattle.run_model.specs.Outcomes.{Outcome, Does, Fails, Waits, Partly, Gave, Broke, on_part, state_at, state_of, with_state, requests_at, requests_of, with_requests, inside_mpi, in_found, in_group}
 use Rattle.run_model.specs.MemoryCalls.{objects_of, accessed}
 use Rattle.run_model.specs.Separate.{OwnPlaces, MetReceive, Keeps, LeavesOthers}
-use Rattle.run_model.proofs.Lists.{get_set_same, get_set_other}
+use Rattle.run_model.proofs.Lists.{get_set_same, get_set_other, length_set}
 use Rattle.run_model.proofs.Places.{owner_apart, own_name}
 use Rattle.mpi_comm.specs.Communicators.{Group, group_of}
 
 -- what a call of a task leaves of the core
 pub record Left (setup : Setup) (core after : Core) (task : ℕ) : Type 0 where
   pub keeps : Keeps core after
+  pub tasks : length after.tasks ≡ length core.tasks
   pub own : OwnPlaces setup core → OwnPlaces setup after
   pub others : OwnPlaces setup core → LeavesOthers core after task
 
@@ -96,6 +97,7 @@ pub record Quiet (core after : Core) : Type 0 where
   pub comms : length core.comms ≤ length after.comms
   pub requests : (task : ℕ) → length (requests_of core task) ≤ length (requests_of after task)
   pub made : (task : ℕ) → (state_of after task).made ≡ (state_of core task).made
+  pub tasks : length after.tasks ≡ length core.tasks
 
 pub same_own : (setup : Setup) (core after : Core) → after.postings ≡ core.postings → after.carried ≡ core.carried → OwnPlaces setup core → OwnPlaces setup after
 same_own setup core after p c h = record {
@@ -112,6 +114,7 @@ quiet_left setup core after task q = record {
     made = λ other. subst (λ n. (state_of core other).made ≤ n) (sym (q.made other)) (omega arith);
     names = λ other left. subst (λ n. NamesAreLeft other n after.memory) (sym (q.made other)) (subst (NamesAreLeft other (state_of core other).made) (sym q.memory) left);
   };
+  tasks = q.tasks;
   own = same_own setup core after q.postings q.carried;
   others = λ own other obj apart. inl (ap (λ m. object_of m (Task other) obj) q.memory);
 }
@@ -124,6 +127,7 @@ same_quiet core = record {
   comms = omega arith;
   requests = λ task. omega arith;
   made = λ task. refl;
+  tasks = refl;
 }
 
 pub left_same : (setup : Setup) (core : Core) (task : ℕ) → Left setup core core task
@@ -138,6 +142,7 @@ left_state setup core task state h = quiet_left setup core (with_state core task
   comms = omega arith;
   requests = λ other. omega arith;
   made = made_same core.tasks task state h;
+  tasks = length_set core.tasks task state;
 })
 
 -- the task's requests change, and none is taken out
@@ -149,6 +154,7 @@ left_requests setup core task requests h = quiet_left setup core (with_requests 
   comms = omega arith;
   requests = requests_set core.requests task requests h;
   made = λ other. refl;
+  tasks = refl;
 })
 
 -- what is needed of an access: it takes back no name, gives one at most, and leaves other tasks' objects
@@ -210,6 +216,7 @@ module _ (setup : Setup) (core : Core) (task : ℕ) (there : task < length core.
         made = made_set core.tasks task (record (state_of core task) { made = o.made }) rises;
         names = λ other. names_by other (eqb_tells other task);
       };
+      tasks = length_set core.tasks task (record (state_of core task) { made = o.made });
       own = same_own setup core access_core refl refl;
       others = λ own other obj apart. inl (stay other obj apart);
     }

@@ -248,6 +248,7 @@ module _ (setup : Setup) (core : Core) (task : ℕ) (p : Posting) (mine : Carrie
       made = λ other. omega arith;
       names = λ other left number past. memory_dead core.memory p.send (partner_carried core.carried met) other (Dyn number) (left number past);
     };
+    tasks = refl;
     own = own_more _ refl refl;
     others = others_met _ p.send met refl partner refl refl;
   }
