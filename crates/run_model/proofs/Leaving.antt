@@ -31,6 +31,7 @@ use Rattle.mpi_comm.specs.Communicators.{Group, group_of}
 pub record Left (setup : Setup) (core after : Core) (task : ℕ) : Type 0 where
   pub keeps : Keeps core after
   pub tasks : length after.tasks ≡ length core.tasks
+  pub lists : length after.requests ≡ length core.requests
   pub own : OwnPlaces setup core → OwnPlaces setup after
   pub others : OwnPlaces setup core → LeavesOthers core after task
 
@@ -98,6 +99,7 @@ pub record Quiet (core after : Core) : Type 0 where
   pub requests : (task : ℕ) → length (requests_of core task) ≤ length (requests_of after task)
   pub made : (task : ℕ) → (state_of after task).made ≡ (state_of core task).made
   pub tasks : length after.tasks ≡ length core.tasks
+  pub lists : length after.requests ≡ length core.requests
 
 pub same_own : (setup : Setup) (core after : Core) → after.postings ≡ core.postings → after.carried ≡ core.carried → OwnPlaces setup core → OwnPlaces setup after
 same_own setup core after p c h = record {
@@ -115,6 +117,7 @@ quiet_left setup core after task q = record {
     names = λ other left. subst (λ n. NamesAreLeft other n after.memory) (sym (q.made other)) (subst (NamesAreLeft other (state_of core other).made) (sym q.memory) left);
   };
   tasks = q.tasks;
+  lists = q.lists;
   own = same_own setup core after q.postings q.carried;
   others = λ own other obj apart. inl (ap (λ m. object_of m (Task other) obj) q.memory);
 }
@@ -128,6 +131,7 @@ same_quiet core = record {
   requests = λ task. omega arith;
   made = λ task. refl;
   tasks = refl;
+  lists = refl;
 }
 
 pub left_same : (setup : Setup) (core : Core) (task : ℕ) → Left setup core core task
@@ -143,6 +147,7 @@ left_state setup core task state h = quiet_left setup core (with_state core task
   requests = λ other. omega arith;
   made = made_same core.tasks task state h;
   tasks = length_set core.tasks task state;
+  lists = refl;
 })
 
 -- the task's requests change, and none is taken out
@@ -155,6 +160,7 @@ left_requests setup core task requests h = quiet_left setup core (with_requests 
   requests = requests_set core.requests task requests h;
   made = λ other. refl;
   tasks = refl;
+  lists = length_set core.requests task requests;
 })
 
 -- what is needed of an access: it takes back no name, gives one at most, and leaves other tasks' objects
@@ -217,6 +223,7 @@ module _ (setup : Setup) (core : Core) (task : ℕ) (there : task < length core.
         names = λ other. names_by other (eqb_tells other task);
       };
       tasks = length_set core.tasks task (record (state_of core task) { made = o.made });
+      lists = refl;
       own = same_own setup core access_core refl refl;
       others = λ own other obj apart. inl (stay other obj apart);
     }

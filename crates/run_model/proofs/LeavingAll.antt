@@ -160,6 +160,7 @@ module _ (setup : Setup) (core : Core) (task : ℕ) where
     requests = λ other. omega arith;
     made = λ other. refl;
     tasks = refl;
+    lists = refl;
   })
 
   into_leaves : (group : Group) (coll : Coll) (words : List Word) (into : Result (Option Span) Fault) → Leaves setup core task (collectives.arrive_into core group coll words into)
@@ -185,6 +186,7 @@ module _ (setup : Setup) (core : Core) (task : ℕ) where
       names = λ other left number past. words_dead core.memory places words (Task other) (Dyn number) (left number past);
     };
     tasks = refl;
+    lists = refl;
     own = same_own setup core _ refl refl;
     others = λ own other obj apart. inl (words_apart core.memory places words (Task other) obj (λ span named' h. owner_apart setup task other span.obj apart (sym (own' span named') ∙ h)));
   }
@@ -216,10 +218,10 @@ module _ (setup : Setup) (core : Core) (task : ℕ) where
   goes_leaves false = waits_leave setup core task
 
   visits_left : (visits : List Visit) → Left setup core (record core { visits = visits }) task
-  visits_left visits = quiet_left setup core (record core { visits = visits }) task (record { memory = refl; postings = refl; carried = refl; comms = omega arith; requests = λ other. omega arith; made = λ other. refl; tasks = refl })
+  visits_left visits = quiet_left setup core (record core { visits = visits }) task (record { memory = refl; postings = refl; carried = refl; comms = omega arith; requests = λ other. omega arith; made = λ other. refl; tasks = refl; lists = refl })
 
   exits_left : (exits : List Visit) → Left setup core (record core { exits = exits }) task
-  exits_left exits = quiet_left setup core (record core { exits = exits }) task (record { memory = refl; postings = refl; carried = refl; comms = omega arith; requests = λ other. omega arith; made = λ other. refl; tasks = refl })
+  exits_left exits = quiet_left setup core (record core { exits = exits }) task (record { memory = refl; postings = refl; carried = refl; comms = omega arith; requests = λ other. omega arith; made = λ other. refl; tasks = refl; lists = refl })
 
 -- what a call of a task that is there comes to
 pub act_leaves : (setup : Setup) (core : Core) (task : ℕ) → task < length core.tasks → (c : Call) → Leaves setup core task (act setup core task c)

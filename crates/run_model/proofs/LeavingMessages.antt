@@ -33,10 +33,11 @@ use Rattle.run_model.specs.declared.offers.Asked.TheVariants.{Refused, Nobody, P
 use Rattle.run_model.specs.Setup.{Setup}
 use Rattle.run_model.specs.World.{Core}
 use Rattle.run_model.specs.Owners.{owner_of}
-use Rattle.run_model.specs.Outcomes.{is_inside, state_of, requests_of, with_requests}
+use Rattle.mpc_values.specs.declared.answers.Answer.TheVariants.{Posted}
+use Rattle.run_model.specs.Outcomes.{Outcome, Does, requests_at, is_inside, state_of, requests_of, with_requests}
 use Rattle.run_model.specs.Posting.{post, asked, asked_in, asked_at, barred, envelope, carries, memory_after, offered, partner_carried, posted, posted_with, with_nobody, with_request}
 use Rattle.run_model.specs.Separate.{OwnPlaces, MetReceive, Keeps, LeavesOthers}
-use Rattle.run_model.proofs.Lists.{get_before}
+use Rattle.run_model.proofs.Lists.{get_set_same, get_before, length_set}
 use Rattle.run_model.proofs.Places.{owner_apart, own_name, span_owner, words_apart, words_dead}
 use Rattle.run_model.proofs.Leaving.{Left, Leaves, does_leave, fails_leave, left_requests, requests_set}
 
@@ -236,10 +237,10 @@ module _ (setup : Setup) (core : Core) (task : ℕ) (p : Posting) (mine : Carrie
 
   -- the core after the posting, with its next request
   posted_left : (met : Option ℕ) → partner_of core.postings p ≡ met → (more : List _) → Left setup core (with_requests (record core {
-      memory = memory_after core.memory p.send mine (partner_carried core.carried met);
-      postings = with_posting core.postings p;
-      carried = core.carried ++ mine ∷ [];
-    }) task (requests_of core task ++ more)) task
+    memory = memory_after core.memory p.send mine (partner_carried core.carried met);
+    postings = with_posting core.postings p;
+    carried = core.carried ++ mine ∷ [];
+  }) task (requests_of core task ++ more)) task
   posted_left met partner more = record {
     keeps = record {
       postings = omega (arith, length-with_posting core.postings p);
@@ -249,6 +250,7 @@ module _ (setup : Setup) (core : Core) (task : ℕ) (p : Posting) (mine : Carrie
       names = λ other left number past. memory_dead core.memory p.send (partner_carried core.carried met) other (Dyn number) (left number past);
     };
     tasks = refl;
+    lists = length_set core.requests task _;
     own = own_more _ refl refl;
     others = others_met _ p.send met refl partner refl refl;
   }
@@ -268,3 +270,25 @@ pub post_leaves : (setup : Setup) (core : Core) (task : ℕ) (o : Offer) → Lea
 unfolding post asked
 post_leaves setup core task o =
     offered_leaves setup core task o.send _ (own_if setup task o.send (is_inside (state_of core task).phase) _ _ (in_own setup core.memory (marks_of core.requests) (held_words core.postings core.carried task) task o _) (refused_own setup task o.send NotInit))
+
+-- a posting's request and number are the next ones
+unfoldable pub PostsNew : Core → ℕ → Outcome → Type 0
+PostsNew core task (Does (Posted req post met words) after) =
+    (req ≡ length (requests_of core task) + 1) × (task < length core.requests → length (requests_of after task) ≡ req)
+    × ((post ≡ 0) ⊎ ((post ≡ length core.postings + 1) × (length after.postings ≡ post)))
+PostsNew core task other = Unit {0}
+
+-- the requests with one more
+one_more : (core : Core) (task : ℕ) (request : Request) → task < length core.requests → length (requests_at (slice_get (slice_set core.requests task (requests_of core task ++ request ∷ [])) task)) ≡ length (requests_of core task) + 1
+one_more core task request there =
+    ap (λ o. length (requests_at o)) (get_set_same core.requests task (requests_of core task ++ request ∷ []) there) ∙ length-append (requests_of core task) (request ∷ [])
+
+offered_new : (core : Core) (task : ℕ) (send : Bool) (a : Asked) → PostsNew core task (offered core task send a)
+unfolding PostsNew
+offered_new core task send (Refused fault) = tt
+offered_new core task send Nobody = (refl, one_more core task _, inl refl)
+offered_new core task send (Posts p mine) = (refl, one_more core task _, inr (refl, length-with_posting core.postings p))
+
+pub post_new : (setup : Setup) (core : Core) (task : ℕ) (o : Offer) → PostsNew core task (post setup core task o)
+unfolding post
+post_new setup core task o = offered_new core task o.send _

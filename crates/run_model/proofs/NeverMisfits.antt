@@ -86,16 +86,19 @@ record AllRead (setup : Setup) (r : Ran) : Type 0 where
   pub answered : Answered setup r
   pub fit : (task : ℕ) → AllFit setup.program (answers_of r.world task)
 
-module _ {setup : Setup} (known : AsksKnown setup) {w : World} {task : ℕ} {entry : Entry} {after : World} (s : IsStep setup w task entry after) where
-  step_fits : (answer : Answer) → answer_told entry.out ≡ Some answer → fits s.call answer ≡ true
-  step_fits answer e =
+module _ {setup : Setup} {w : World} {task : ℕ} {entry : Entry} {after : World} (s : IsStep setup w task entry after) where
+  step_fits : IsKnown setup s.call → (answer : Answer) → answer_told entry.out ≡ Some answer → fits s.call answer ≡ true
+  step_fits known answer e =
       answer_fits s.call (tried setup w task s.call) answer
-      (tried_fits (nat_le setup.calls (course_of w.log task).entries) s.call (act setup w.core task s.call) (answers_fit setup w.core task s.call (known (answers_of w task) s.call s.line s.asked)))
+      (tried_fits (nat_le setup.calls (course_of w.log task).entries) s.call (act setup w.core task s.call) (answers_fit setup w.core task s.call known))
       (ap answer_told (out_is s) ∙ e)
 
-  own_fit : (o : Option Answer) → answer_told entry.out ≡ o → AllFit setup.program (answers_of w task) → AllFit setup.program (answers_of w task ++ list_of o)
-  own_fit None e h = subst (AllFit setup.program) (append_nil (answers_of w task)) h
-  own_fit (Some answer) e h = all_fit_more setup.program (answers_of w task) answer s.call s.line h s.asked (step_fits answer e)
+  pub known_fits : IsKnown setup s.call → (answer : Answer) → entry.out ≡ out.Did answer → fits s.call answer ≡ true
+  known_fits known answer e = step_fits known answer (ap answer_told e)
+
+  own_fit : AsksKnown setup → (o : Option Answer) → answer_told entry.out ≡ o → AllFit setup.program (answers_of w task) → AllFit setup.program (answers_of w task ++ list_of o)
+  own_fit known None e h = subst (AllFit setup.program) (append_nil (answers_of w task)) h
+  own_fit known (Some answer) e h = all_fit_more setup.program (answers_of w task) answer s.call s.line h s.asked (step_fits (known (answers_of w task) s.call s.line s.asked) answer e)
 
 read_start : (setup : Setup) → AllRead setup (at_start setup)
 read_start setup = record {
@@ -112,7 +115,7 @@ read_step setup known r task entry after h s = record {
     by : (other : ℕ) → ((other == task) ≡ true) × (other ≡ task) ⊎ ((other == task) ≡ false) × (other ≢ task) → AllFit setup.program (answers_of after other)
     by other (inl e) =
         subst (λ t. AllFit setup.program (answers_of after t)) (sym e.1)
-        (subst (AllFit setup.program) (sym (own_answers s (h.answered.lists ∙ sym h.answered.courses))) (own_fit known s (answer_told entry.out) refl (h.fit task)))
+        (subst (AllFit setup.program) (sym (own_answers s (h.answered.lists ∙ sym h.answered.courses))) (own_fit s known (answer_told entry.out) refl (h.fit task)))
     by other (inr e) = subst (AllFit setup.program) (sym (other_answers s other e.1)) (h.fit other)
 
 all_read : (setup : Setup) → AsksKnown setup → (order : List ℕ) → AllRead setup (run setup order)

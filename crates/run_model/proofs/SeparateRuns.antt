@@ -34,6 +34,7 @@ use Rattle.run_model.proofs.LeavingAll.{act_leaves}
 -- under a name that is not given yet
 pub record Separate (setup : Setup) (r : Ran) : Type 0 where
   pub tasks : length r.world.core.tasks ≡ tasks_of setup
+  pub lists : length r.world.core.requests ≡ tasks_of setup
   pub courses : length r.world.log.courses ≡ tasks_of setup
   pub own : OwnPlaces setup r.world.core
   pub names : (task : ℕ) → NamesAreLeft task (state_of r.world.core task).made r.world.core.memory
@@ -58,7 +59,7 @@ obj_is owner other obj another e = search rules
 copies_dead : (owner : Owner) (number : ℕ) (variables : List StaticVar) (m : Memory) (task made : ℕ) → object_of m (Task task) (Dyn made) ≡ None → object_of (with_copies owner number variables m) (Task task) (Dyn made) ≡ None
 copies_dead owner number [] m task made none = none
 copies_dead owner number (variable ∷ more) m task made none = by (image_number variable.level == image_number (owner_level owner))
-  (copies_dead owner (number + 1) more m task made none)
+    (copies_dead owner (number + 1) more m task made none)
   where
     never : key_of (Task task) (Dyn made) ≡ key_of owner (Glob number) → ⊥
     never e = differs (obj_is (Task task) owner (Dyn made) (Glob number) e)
@@ -79,6 +80,7 @@ separate_start : (setup : Setup) → Separate setup (at_start setup)
 unfolding first_memory
 separate_start setup = record {
   tasks = length_replicate (tasks_of setup) first_task;
+  lists = length_replicate (tasks_of setup) [];
   courses = length_replicate (tasks_of setup) first_course;
   own = record { even = refl; own = λ index made carried span at has named. nothing index made at };
   names = λ task number past. all_copies_dead setup.program.variables (owners_of setup.machine setup.cores) task number;
@@ -92,6 +94,7 @@ separate_step setup r task entry after h s =
     let left = step_left s (there s h) in
     record {
       tasks = left.tasks ∙ h.tasks;
+      lists = left.lists ∙ h.lists;
       courses = ap length (sym (courses_are s)) ∙ length_set r.world.log.courses task _ ∙ h.courses;
       own = left.own h.own;
       names = λ other. left.keeps.names other (h.names other);

@@ -1,6 +1,6 @@
 -- What a step leaves, whichever call it is: numbers are never given again, and another task's objects stay, unless its
 -- receive was met.
-use Rattle.std.specs.Prelude.{◌≡◌, ◌≢◌, ◌⊎◌, ◌≤◌, ℕ, true, false, length, slice_get, Some}
+use Rattle.std.specs.Prelude.{◌≡◌, ◌≢◌, ◌⊎◌, ◌≤◌, ◌+◌, ℕ, true, false, length, slice_get, Some}
 use Rattle.mpc_values.specs.declared.values.Obj.{Obj}
 use Rattle.mpc_values.specs.declared.owners.Owner.TheVariants.{Task}
 use Rattle.memory_model.specs.declared.kinds.Span.{Span}
@@ -46,3 +46,10 @@ pub record Keeps (core after : Core) : Type 0 where
 abbrev pub LeavesOthers : Core → Core → ℕ → Type 0
 LeavesOthers core after task = (other : ℕ) (obj : Obj) → other ≢ task
     → (object_of after.memory (Task other) obj ≡ object_of core.memory (Task other) obj) ⊎ MetReceive core after task other
+
+-- The request that a posting gets is the task's next one, and the posting's number the next one, or 0, where nothing was
+-- posted. The next ones after it are greater.
+pub record NextNumbers (core after : Core) (task req post : ℕ) : Type 0 where
+  pub request : req ≡ length (requests_of core task) + 1
+  pub counted : length (requests_of after task) ≡ req
+  pub posting : (post ≡ 0) ⊎ ((post ≡ length core.postings + 1) × (length after.postings ≡ post))

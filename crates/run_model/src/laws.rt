@@ -1,18 +1,27 @@
 //! Laws of runs, as contracts of functions that do nothing.
 ghost use Rattle.std.specs.Prelude.{◌≡◌, ◌≢◌, ℕ, true, List, [], ◌∷◌, ◌++◌, slice_get, Some};
+ghost use Rattle.mpc_values.specs.declared.values.Obj.{Obj};
+ghost use Rattle.mpc_values.specs.declared.owners.Owner.TheVariants.{Task};
+ghost use Rattle.mpc_values.specs.declared.answers.Answer.{Answer};
+ghost use Rattle.mpc_values.specs.declared.answers.Answer.TheVariants.{Posted};
+ghost use Rattle.mpc_base.specs.declared.journals.Out.TheVariants.{Did};
 ghost use Rattle.mpc_base.specs.declared.journals.Entry.{Entry};
 ghost use Rattle.mpc_base.specs.declared.journals.End.TheVariants as end;
-ghost use Rattle.c_tree.specs.Asking.{Misfit};
+ghost use Rattle.c_tree.specs.Asking.{Misfit, fits};
 ghost use Rattle.c_tree.specs.Next.{next_of};
 ghost use Rattle.run_model.specs.declared.progress.Course.{Course};
+ghost use Rattle.memory_model.specs.Names.{NamesAreLeft};
 ghost use Rattle.run_model.specs.Setup.{Setup};
+ghost use Rattle.run_model.specs.Owners.{owner_of};
+ghost use Rattle.run_model.specs.Outcomes.{state_of};
 ghost use Rattle.run_model.specs.World.{World};
 ghost use Rattle.run_model.specs.Steps.{Stays, Makes, answers_of};
 ghost use Rattle.run_model.specs.Go.{go, is_blocked};
 ghost use Rattle.run_model.specs.Ending.{ending};
 ghost use Rattle.run_model.specs.Run.{run, ran_step, at_start, order_of, world_of};
 ghost use Rattle.run_model.specs.Cases.{TellingRuns};
-ghost use Rattle.run_model.specs.Fitting.{AsksKnown};
+ghost use Rattle.run_model.specs.Fitting.{IsKnown, AsksKnown};
+ghost use Rattle.run_model.specs.Separate.{OwnPlaces, Keeps, LeavesOthers, NextNumbers};
 ghost use Rattle.run_model.specs.Stepping.{IsStep, Bounded, answers_told};
 
 /// A run begins at the start of its setup, and with one task more it goes on by one step of that task.
@@ -59,7 +68,24 @@ pub fn ended_runs_and_blocked_tasks_stay()
 /// Each answer of a run is of its call's kind, so that a program which enters only singles that it has never gets one that
 /// it cannot read.
 pub fn tasks_never_misfit()
-    ensures { (setup : Setup) → AsksKnown setup → (order : List ℕ) (task : ℕ) → next_of setup.program (answers_of (run setup order).world task) ≢ Misfit }
+    ensures fits { (setup : Setup) (w : World) (task : ℕ) (entry : Entry) (after : World) (step : IsStep setup w task entry after) (answer : Answer) → IsKnown setup step.call → entry.out ≡ Did answer → fits step.call answer ≡ true }
+    ensures never { (setup : Setup) → AsksKnown setup → (order : List ℕ) (task : ℕ) → next_of setup.program (answers_of (run setup order).world task) ≢ Misfit }
+{}
+
+/// A step of one task leaves another task's objects as they are, unless the step posted a send whose partner is a receive
+/// of that other task. So processes share only the copies of declared variables.
+pub fn processes_are_separate()
+    ensures others { (setup : Setup) (order : List ℕ) (task : ℕ) (entry : Entry) (after : World) → go setup (run setup order).world task ≡ Makes entry after → LeavesOthers (run setup order).world.core after.core task }
+    ensures places { (setup : Setup) (order : List ℕ) → OwnPlaces setup (run setup order).world.core }
+    ensures touched { (setup : Setup) (task other : ℕ) (obj : Obj) → other ≢ task → owner_of setup task obj ≢ Task other }
+{}
+
+/// The numbers of requests, postings, communicators and objects are never given again: nothing that has one is taken out,
+/// a posting gets the next ones, and no object lives under a name that its task has not given yet.
+pub fn numbers_are_never_given_again()
+    ensures kept { (setup : Setup) (order : List ℕ) (task : ℕ) (entry : Entry) (after : World) → go setup (run setup order).world task ≡ Makes entry after → Keeps (run setup order).world.core after.core }
+    ensures posted { (setup : Setup) (order : List ℕ) (task : ℕ) (entry : Entry) (after : World) (req post met words : ℕ) → go setup (run setup order).world task ≡ Makes entry after → entry.out ≡ Did (Posted req post met words) → NextNumbers (run setup order).world.core after.core task req post }
+    ensures names { (setup : Setup) (order : List ℕ) (task : ℕ) → NamesAreLeft task (state_of (run setup order).world.core task).made (run setup order).world.core.memory }
 {}
 
 /// A few runs, computed: the order of a posting's faults, the marks of an eager send, a run that is stuck and not before,
