@@ -9,11 +9,11 @@ use Rattle.word_region.specs.Places.{cell, is_in, held_of, IsFree, IsHeld, Takes
 use Rattle.word_region.proofs.Laid.{in_range, below_range, above_range}
 
 -- how many of so many places pass a test
-tally : (ℕ → Bool) → ℕ → ℕ
+unfoldable pub tally : (ℕ → Bool) → ℕ → ℕ
 tally test zero = 0
 tally test (suc n) = cond (test 0) 1 0 + tally (λ p. test (suc p)) n
 
-tally_same : (f g : ℕ → Bool) (n : ℕ) → ((p : ℕ) → p < n → f p ≡ g p) → tally f n ≡ tally g n
+pub tally_same : (f g : ℕ → Bool) (n : ℕ) → ((p : ℕ) → p < n → f p ≡ g p) → tally f n ≡ tally g n
 unfolding tally
 tally_same f g zero same = refl
 tally_same f g (suc n) same =
@@ -21,7 +21,7 @@ tally_same f g (suc n) same =
     ∙ ap (λ t. cond (g 0) 1 0 + t) (tally_same (λ p. f (suc p)) (λ p. g (suc p)) n (λ p within. same (suc p) (omega arith)))
 
 -- a range that passes the second test and not the first
-tally_more : (f g : ℕ → Bool) (base len n : ℕ) → base + len ≤ n → ((p : ℕ) → p < base → g p ≡ f p) → ((p : ℕ) → base + len ≤ p → g p ≡ f p)
+pub tally_more : (f g : ℕ → Bool) (base len n : ℕ) → base + len ≤ n → ((p : ℕ) → p < base → g p ≡ f p) → ((p : ℕ) → base + len ≤ p → g p ≡ f p)
     → ((p : ℕ) → base ≤ p → p < base + len → f p ≡ false) → ((p : ℕ) → base ≤ p → p < base + len → g p ≡ true) → tally g n ≡ tally f n + len
 unfolding tally
 tally_more f g base zero n within low high was is =
@@ -44,7 +44,7 @@ tally_more f g (suc base) (suc len) (suc n) within low high was is =
     ∙ (let e : cond (f 0) 1 0 + tally (λ p. g (suc p)) n ≡ (cond (f 0) 1 0 + tally (λ p. f (suc p)) n) + suc len = omega (arith, rest) in e)
 
 -- no place from a number on passes
-tally_past : (f : ℕ → Bool) (n more : ℕ) → ((p : ℕ) → n ≤ p → f p ≡ false) → tally f (n + more) ≡ tally f n
+pub tally_past : (f : ℕ → Bool) (n more : ℕ) → ((p : ℕ) → n ≤ p → f p ≡ false) → tally f (n + more) ≡ tally f n
 unfolding tally
 tally_past f zero zero none = refl
 tally_past f zero (suc more) none =
