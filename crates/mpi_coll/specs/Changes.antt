@@ -11,8 +11,8 @@ use Rattle.mpi_coll.specs.declared.arrivals.Arrival.{Arrival}
 abbrev pub chosen_in : List Arrival → List Chosen
 chosen_in meeting = map (λ (a : Arrival). record { colour = a.coll.colour; key = a.coll.key }) meeting
 
--- The communicators after a meeting of this kind at the communicator of a number, at which all members have arrived: Dup
--- makes one more, Split one for each colour, and Free ends it. The arrivals of the meeting are in rank order.
+-- The communicators after the meeting of a number at a communicator, where all members have arrived: Dup makes one more,
+-- Split one for each colour, and Free ends the communicator. The arrivals of the meeting are in rank order.
 abbrev pub comms_after : CollKind → List Communicator → ℕ → ℕ → List ℕ → List Arrival → List Communicator
 comms_after Dup comms comm number members meeting = with_dup comms comm number members
 comms_after Split comms comm number members meeting = with_split comms comm number members (chosen_in meeting)

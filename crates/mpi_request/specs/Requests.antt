@@ -46,7 +46,7 @@ abbrev pub receive_told : List Made → List Carried → ℕ → Option ℕ → 
 receive_told postings carried number None = None
 receive_told postings carried number (Some send) = told_by (posting_of postings send) (carried_of carried send) (carried_of carried number)
 
--- a send is told nothing: the empty status, once it is eager or has a partner
+-- a send ends with the empty status, once it is eager or has a partner
 abbrev pub send_told : Option ℕ → Option Carried → Option (Result Status Fault)
 send_told met None = None
 send_told met (Some carried) = if carried.eager || is_some met then Some (Ok empty_status) else None

@@ -71,7 +71,7 @@ choices zero setup w picker = []
 choices (suc left) setup w picker =
     with_pick (picked setup w picker) (λ pick. choices left setup (world_after w (go setup w pick.task)) pick.after)
 
--- The order of a serial run. A task has at most its allowed entries, and one that ends the run with Calls, so no run is
--- longer.
+-- The order of a serial run. Each task has at most its allowed entries, and the run one more, which ends it with Calls; so
+-- no run is longer.
 abbrev pub choice : Setup → Picks → List ℕ
 choice setup picks = choices (tasks_of setup * setup.calls + 1) setup (start setup) (first_picker picks)

@@ -99,7 +99,7 @@ arrive setup core task coll = in_group core task coll.comm (arrive_in setup core
 abbrev pub leaves : Group → Arrival → Bool
 leaves group a = a.comm == group.comm && a.rank == group.rank
 
--- the core in which the member has left all its meetings
+-- the core in which the member has left all its meetings of this communicator
 abbrev pub with_left : Core → Group → Core
 with_left core group = record core {
   arrivals = map (λ (a : Arrival). if leaves group a then record a { left = true } else a) core.arrivals;

@@ -28,7 +28,7 @@ MapsAgree (Some rows) None m = ⊥
 abbrev pub world_in : RunRecord → World
 world_in kept = world_of (setup_of kept.setup) kept.journal.entries
 
--- It is that of a run of separate processes which share only the declared variables: the journal is a legal run of the
+-- The record is that of a run of separate processes which share only the declared variables: the journal is a legal run of the
 -- setup, the end and the ranks are those of its world, its messages are orderly, and where all finished the one map stands
 -- for the memories of all.
 pub record RecordsRun (kept : RunRecord) : Type 0 where
