@@ -1,5 +1,5 @@
 -- What holds of every access of a task, since each changes memory in one of five ways.
-use Rattle.std.proofs.Common.{◌≡◌, ◌≢◌, ◌<◌, ℕ, zero, suc, ℤ, pos, negsuc, ◌+◌, ◌≤◌, ◌==◌, ◌&&◌, Bool, true, false, cond, nat_le, if◌then◌else◌, length, List, slice_get, replicate, Option, Some, None, refl, ap, subst, sym, ◌∙◌, arith, rules}
+use Rattle.std.proofs.Common.{◌≡◌, ◌≢◌, ◌<◌, ℕ, zero, suc, ℤ, pos, negsuc, ◌+◌, ◌==◌, ◌&&◌, Bool, true, false, cond, nat_le, if◌then◌else◌, length, slice_get, replicate, Option, Some, None, refl, ap, subst, sym, ◌∙◌, arith, rules}
 use Rattle.std.specs.Prelude.{◌||◌}
 use Rattle.std.specs.List.{list_any, range_with_len}
 use Rattle.std.specs.FinMap.Entries.{find}
@@ -15,7 +15,7 @@ use Rattle.mpc_values.specs.declared.faults.Fault.{Fault}
 use Rattle.mpc_values.specs.declared.faults.Fault.TheVariants.{Bounds, Dangling, StackFull, PendingTouch, PendingDrop}
 use Rattle.memory_model.specs.declared.kinds.Kind.{Kind}
 use Rattle.memory_model.specs.declared.kinds.Kind.TheVariants.{Local, Block}
-use Rattle.memory_model.specs.Memory.{Memory, Object, IsOrdered, key_cmp, key_of, object_of, with_object, without}
+use Rattle.memory_model.specs.Memory.{Object, IsOrdered, key_cmp, key_of, object_of, with_object, without}
 use Rattle.memory_model.specs.Marks.{Marks, Places, barred_to_loads, barred_to_stores, is_some_place}
 use Rattle.memory_model.specs.Ranges.{Range, Within, NoRange, range_in, range_of}
 use Rattle.memory_model.specs.Access.{Objects, Access, Answers, Breaks, given, load_in, store, store_in, with_word, malloc, drop, drop_in, free, free_in, free_at, makes, ends, is_block, live_words}

@@ -1,5 +1,5 @@
 -- Messages: what a match of a send and a receive moves, and what the receive is told of it (MPI 3.1, sections 3.2 and 3.7).
-use Rattle.std.specs.Prelude.{ℕ, zero, suc, pos, negsuc, ◌+◌, ◌&&◌, ◌==◌, Bool, true, false, is_none, nat_le, if◌then◌else◌, List, sum_by, filter, zip, slice_get, Option, Some, None, Result, Ok, Err}
+use Rattle.std.specs.Prelude.{ℕ, zero, suc, pos, negsuc, ◌&&◌, ◌==◌, Bool, is_none, nat_le, if◌then◌else◌, List, sum_by, filter, zip, slice_get, Option, Some, None, Result, Ok, Err}
 use Rattle.mpc_values.specs.declared.answers.Status.{Status}
 use Rattle.mpc_values.specs.declared.faults.Fault.{Fault}
 use Rattle.mpc_values.specs.declared.faults.Fault.TheVariants.{Mistyped, Truncate}

@@ -1,5 +1,5 @@
 -- Which places the active requests have marked (MPI 3.1, sections 3.7.2 and 3.7.3).
-use Rattle.std.specs.Prelude.{ℕ, ◌+◌, ◌&&◌, not, Bool, true, false, nat_le, nat_lt, if◌then◌else◌, List, flat_map, filter_map, Option, Some, None}
+use Rattle.std.specs.Prelude.{ℕ, ◌+◌, ◌&&◌, not, Bool, true, false, nat_le, nat_lt, if◌then◌else◌, List, flat_map, filter_map, Option, None}
 use Rattle.std.specs.List.{list_any}
 use Rattle.mpc_values.specs.declared.values.Obj.{Obj}
 use Rattle.mpc_values.specs.declared.owners.Owner.{Owner}

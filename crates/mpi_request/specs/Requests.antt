@@ -1,5 +1,5 @@
 -- Requests of a task (MPI 3.1, section 3.7): what a word names, when a request is ready, and what it ends with.
-use Rattle.std.specs.Prelude.{ℕ, zero, suc, ◌||◌, false, is_some, if◌then◌else◌, List, slice_get, slice_set, Option, Some, None, Result, Ok, Err}
+use Rattle.std.specs.Prelude.{ℕ, zero, suc, ◌||◌, false, is_some, if◌then◌else◌, List, slice_get, slice_set, Option, Some, None, Result, Ok}
 use Rattle.mpc_values.specs.declared.values.Word.{Word}
 use Rattle.mpc_values.specs.declared.values.Word.TheVariants.{Undef, Int, Null, Ptr, Comm, Req}
 use Rattle.mpc_values.specs.declared.answers.Status.{Status}

@@ -1,5 +1,5 @@
 -- The answers that a task has had are those that its own entries tell.
-use Rattle.std.proofs.Common.{◌≡◌, ◌≢◌, ◌<◌, ◌⊎◌, ◌==◌, ℕ, zero, suc, Bool, true, false, if◌then◌else◌, List, [], ◌∷◌, ◌++◌, length, replicate, filter_map, slice_get, slice_set, Option, Some, None, inl, inr, refl, ap, sym, ◌∙◌, subst, arith}
+use Rattle.std.proofs.Common.{◌≡◌, ◌≢◌, ◌<◌, ◌⊎◌, ◌==◌, ℕ, zero, suc, true, false, if◌then◌else◌, List, [], ◌∷◌, ◌++◌, length, replicate, slice_get, slice_set, Option, Some, None, inl, inr, refl, ap, sym, ◌∙◌, subst}
 use Rattle.std.specs.List.{cons_option}
 use Rattle.std.proofs.lemmas.Bool.{eq-eqb}
 use Rattle.std.proofs.lemmas.Bool.Decides.{eqb_tells}
@@ -12,8 +12,7 @@ use Rattle.mpc_base.specs.declared.journals.Entry.{Entry}
 use Rattle.run_model.specs.Setup.{Setup, tasks_of}
 use Rattle.run_model.specs.World.{World}
 use Rattle.run_model.specs.Start.{first_course}
-use Rattle.run_model.specs.Steps.{Makes, out_of, tried, entry_of, answers_after, answers_at, answers_of, log_after, course_after, course_of, core_after}
-use Rattle.run_model.specs.Go.{go}
+use Rattle.run_model.specs.Steps.{out_of, tried, answers_after, answers_at, answers_of, course_after, course_of}
 use Rattle.run_model.specs.Run.{Ran, run, at_start}
 use Rattle.run_model.specs.Stepping.{IsStep, answer_told, answer_to, answers_told}
 use Rattle.run_model.proofs.Lists.{get_set_same, get_set_other, length_set}

@@ -1,9 +1,9 @@
 -- An answer that a call is given is one of the call's kind, but for an enter of a single that the program does not have.
-use Rattle.std.specs.Prelude.{ℕ, true, false, if◌then◌else◌}
+use Rattle.std.specs.Prelude.{ℕ, true, false}
 use Rattle.mpc_values.specs.declared.calls.Call.{Call}
 use Rattle.mpc_values.specs.declared.calls.Call.TheVariants as call
 use Rattle.mpc_values.specs.declared.answers.Answer.TheVariants.{Done, Flag, Entered}
-use Rattle.c_tree.specs.Asking.{OfDone, OfWord, OfDoneOrWord, OfPosting, OfStatus, OfFlag, OfAny, OfWay, kind_of}
+use Rattle.c_tree.specs.Asking.{OfDone, OfWord, OfStatus, OfFlag, OfAny, OfWay, kind_of}
 use Rattle.memory_model.specs.Marks.{barred_to_loads, barred_to_stores}
 use Rattle.memory_model.specs.Ranges.{range_of}
 use Rattle.mpi_request.specs.Pending.{marks_of}
@@ -13,7 +13,7 @@ use Rattle.hls_sync.specs.Ways.{way_of, may_go, may_leave_bar, running_visit, wi
 use Rattle.run_model.specs.Setup.{Setup}
 use Rattle.run_model.specs.World.{Core}
 use Rattle.run_model.specs.Owners.{owner_of}
-use Rattle.run_model.specs.Outcomes.{state_of, requests_of, with_state}
+use Rattle.run_model.specs.Outcomes.{state_of, requests_of}
 use Rattle.run_model.specs.MemoryCalls as memory
 use Rattle.run_model.specs.TaskCalls as task'
 use Rattle.run_model.specs.Posting as posting

@@ -1,5 +1,5 @@
 -- The answers of a task's calls about itself, of postings, of completing calls and of probes are of their kinds.
-use Rattle.std.specs.Prelude.{ℕ, ℤ, true, false, T, ◌+◌, nat_le, if◌then◌else◌, List, length, ◌++◌, Option, Some, None}
+use Rattle.std.specs.Prelude.{ℕ, ℤ, true, false, ◌+◌, nat_le, if◌then◌else◌, List, length, Option, Some, None}
 use Rattle.mpc_values.specs.declared.answers.Status.{Status}
 use Rattle.mpc_values.specs.declared.limits.TheConstants.{MAX_OUTPUT_BYTES}
 use Rattle.c_tree.specs.Asking.{AnswerKind, OfDone, OfWord, OfPosting, OfStatus, OfFlag, OfAny}
@@ -10,12 +10,12 @@ use Rattle.run_model.specs.declared.progress.Phase.TheVariants.{Before, Inside, 
 use Rattle.run_model.specs.declared.offers.Asked.{Asked}
 use Rattle.run_model.specs.declared.offers.Asked.TheVariants.{Refused, Nobody, Posts}
 use Rattle.run_model.specs.World.{Core}
-use Rattle.run_model.specs.Outcomes.{Outcome, Does, Fails, Partly, Gave, Broke}
+use Rattle.run_model.specs.Outcomes.{Outcome, Partly}
 use Rattle.run_model.specs.TaskCalls as task'
 use Rattle.run_model.specs.Posting as posting
 use Rattle.run_model.specs.Completing as completing
 use Rattle.run_model.specs.Probing as probing
-use Rattle.run_model.proofs.Fitting.{Fits, FitsPart, fails_fits, does_fits, fits_if}
+use Rattle.run_model.proofs.Fitting.{Fits, FitsPart, fails_fits, fits_if}
 
 part_if : {A : Type 0} (kind : AnswerKind) (b : _) (x y : Partly A) → FitsPart kind x → FitsPart kind y → FitsPart kind (if b then x else y)
 part_if kind true x y h g = h

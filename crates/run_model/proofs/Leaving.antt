@@ -1,6 +1,6 @@
 -- What each call leaves: nothing that has a number is taken out, the places of postings stay their tasks' own, and another
 -- task's objects stay, unless its receive was met.
-use Rattle.std.proofs.Common.{◌≡◌, ◌≢◌, ◌⊎◌, inl, inr, ◌<◌, ◌≤◌, ◌+◌, ◌-◌, ◌==◌, ◌&&◌, not, ℕ, ℤ, zero, suc, Bool, true, false, T, IsTrue, if◌then◌else◌, nat_le, is_none, List, [], ◌∷◌, ◌++◌, map, length, replicate, slice_get, slice_set, Option, Some, None, IsSomeAnd, Result, Ok, Err, refl, ap, sym, ◌∙◌, subst, length-append, arith}
+use Rattle.std.proofs.Common.{◌≡◌, ◌≢◌, ◌⊎◌, inl, inr, ◌<◌, ◌≤◌, ◌==◌, ℕ, zero, suc, Bool, true, false, if◌then◌else◌, List, [], ◌∷◌, length, slice_get, slice_set, Option, Some, None, refl, ap, sym, ◌∙◌, subst, arith}
 use Rattle.std.proofs.lemmas.Bool.Decides.{eqb_tells}
 use Rattle.mpc_values.specs.declared.values.Word.{Word}
 use Rattle.mpc_values.specs.declared.values.Obj.{Obj}
@@ -9,20 +9,17 @@ use Rattle.mpc_values.specs.declared.owners.Owner.{Owner}
 use Rattle.mpc_values.specs.declared.owners.Owner.TheVariants.{Task}
 use Rattle.mpc_values.specs.declared.answers.Answer.{Answer}
 use Rattle.mpc_values.specs.declared.faults.Fault.{Fault}
-use Rattle.memory_model.specs.declared.kinds.Kind.{Kind}
-use Rattle.memory_model.specs.declared.kinds.Span.{Span}
-use Rattle.memory_model.specs.Memory.{Memory, object_of}
+use Rattle.memory_model.specs.Memory.{object_of}
 use Rattle.memory_model.specs.Access.{Objects, Access, Answers, Breaks}
 use Rattle.memory_model.specs.Names.{NamesAreLeft, EveryAccess, GivesOneName, LeavesObject}
 use Rattle.memory_model.proofs.Accesses.{every_access, names_last, others_stay}
 use Rattle.mpi_request.specs.declared.requests.Request.{Request}
 use Rattle.run_model.specs.Setup.{Setup}
 use Rattle.run_model.specs.World.{TaskState, Core}
-use Rattle.run_model.specs.Start.{first_task}
 use Rattle.run_model.specs.Owners.{owner_of}
-use Rattle.run_model.specs.Outcomes.{Outcome, Does, Fails, Waits, Partly, Gave, Broke, on_part, state_at, state_of, with_state, requests_at, requests_of, with_requests, inside_mpi, in_found, in_group}
+use Rattle.run_model.specs.Outcomes.{Outcome, Does, Fails, Waits, state_at, state_of, with_state, requests_at, requests_of, with_requests, inside_mpi, in_found, in_group}
 use Rattle.run_model.specs.MemoryCalls.{objects_of, accessed}
-use Rattle.run_model.specs.Separate.{OwnPlaces, MetReceive, Keeps, LeavesOthers}
+use Rattle.run_model.specs.Separate.{OwnPlaces, Keeps, LeavesOthers}
 use Rattle.run_model.proofs.Lists.{get_set_same, get_set_other, length_set}
 use Rattle.run_model.proofs.Places.{owner_apart, own_name}
 use Rattle.mpi_comm.specs.Communicators.{Group, group_of}

@@ -1,8 +1,7 @@
 -- What every call leaves.
-use Rattle.std.proofs.Common.{◌≡◌, ◌≢◌, ◌⊎◌, inl, inr, ◌<◌, ◌≤◌, ◌+◌, ◌==◌, ◌&&◌, ◌||◌, not, ℕ, ℤ, pos, negsuc, zero, suc, position, Bool, true, false, if◌then◌else◌, List, [], ◌∷◌, ◌++◌, map, length, slice_get, slice_set, Option, Some, None, Result, Ok, Err, refl, ap, sym, ◌∙◌, subst, length-append, arith}
+use Rattle.std.proofs.Common.{◌≡◌, inl, ◌<◌, ◌≤◌, ℕ, ℤ, pos, negsuc, zero, suc, position, Bool, true, false, if◌then◌else◌, List, [], ◌∷◌, map, length, slice_get, Option, Some, None, Result, Ok, Err, refl, sym, ◌∙◌, length-append, arith}
 use Rattle.std.specs.List.{list_any, list_all}
 use Rattle.mpc_values.specs.declared.values.Word.{Word}
-use Rattle.mpc_values.specs.declared.values.Obj.{Obj}
 use Rattle.mpc_values.specs.declared.values.Obj.TheVariants.{Dyn}
 use Rattle.mpc_values.specs.declared.owners.Owner.TheVariants.{Task}
 use Rattle.mpc_values.specs.declared.answers.Answer.{Answer}
@@ -17,14 +16,13 @@ use Rattle.mpc_values.specs.declared.faults.Fault.{Fault}
 use Rattle.c_tree.specs.declared.program.HlsKind.{HlsKind}
 use Rattle.c_tree.specs.declared.program.Construct.{Construct}
 use Rattle.memory_model.specs.declared.kinds.Span.{Span}
-use Rattle.memory_model.specs.Memory.{object_of}
-use Rattle.memory_model.specs.Ranges.{span_of, with_words_at}
+use Rattle.memory_model.specs.Ranges.{with_words_at}
 use Rattle.mpi_request.specs.declared.requests.Request.{Request}
 use Rattle.mpi_queue.specs.History.{Made}
 use Rattle.mpi_request.specs.declared.requests.Carried.{Carried}
 use Rattle.mpi_request.specs.Messages.{empty_status}
 use Rattle.mpi_request.specs.Requests.{Named, NullRequest, Active, NotActive, named, told_of, without_request}
-use Rattle.mpi_request.specs.Completing.{Completion, Ends, Breaks, NotReady, ended, completion_in, completion, completion_at, any_at, any_completion, is_null, is_not_active, is_ready}
+use Rattle.mpi_request.specs.Completing.{Completion, Ends, Breaks, NotReady, ended, completion_in, completion_at, any_at, any_completion, is_null, is_not_active, is_ready}
 use Rattle.mpi_request.specs.Pending.{marks_of}
 use Rattle.mpi_comm.specs.declared.communicators.Communicator.{Communicator}
 use Rattle.mpi_comm.specs.declared.communicators.View.{View}
@@ -41,7 +39,7 @@ use Rattle.run_model.specs.declared.progress.Phase.TheVariants.{After}
 use Rattle.run_model.specs.Setup.{Setup}
 use Rattle.run_model.specs.World.{Core}
 use Rattle.run_model.specs.Owners.{owner_of}
-use Rattle.run_model.specs.Outcomes.{Outcome, Does, Fails, Waits, Partly, Gave, Broke, on_part, state_of, requests_of, with_requests}
+use Rattle.run_model.specs.Outcomes.{Outcome, Does, Partly, Gave, Broke, on_part, state_of, requests_of}
 use Rattle.run_model.specs.MemoryCalls as memory
 use Rattle.run_model.specs.TaskCalls as task'
 use Rattle.run_model.specs.Completing as completing
@@ -49,10 +47,9 @@ use Rattle.run_model.specs.Probing as probing
 use Rattle.run_model.specs.Collectives as collectives
 use Rattle.run_model.specs.Sharing as sharing
 use Rattle.run_model.specs.Act.{act}
-use Rattle.run_model.specs.Separate.{OwnPlaces, Keeps, LeavesOthers}
 use Rattle.run_model.proofs.Lists.{length_set}
 use Rattle.run_model.proofs.Places.{owner_apart, found_owner, words_apart, words_dead}
-use Rattle.run_model.proofs.Leaving.{Left, Leaves, does_leave, fails_leave, waits_leave, leave_if, leave_inside, leave_group, Quiet, quiet_left, same_own, left_same, left_state, left_requests, accessed_leaves, each_access}
+use Rattle.run_model.proofs.Leaving.{Left, Leaves, does_leave, fails_leave, waits_leave, leave_if, leave_inside, leave_group, quiet_left, same_own, left_same, left_state, left_requests, accessed_leaves, each_access}
 use Rattle.run_model.proofs.LeavingMessages.{post_leaves}
 
 part_leaves : {A : Type 0} (setup : Setup) (core : Core) (task : ℕ) (core_with : A → Core) (p : Partly A) → ((part : A) → Left setup core (core_with part) task) → Leaves setup core task (on_part core_with p)

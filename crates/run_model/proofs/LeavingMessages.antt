@@ -1,8 +1,6 @@
 -- What a posting leaves: another task's objects change only where the posting is a send that met that task's receive.
-use Rattle.std.proofs.Common.{◌≡◌, ◌≢◌, ◌⊎◌, inl, inr, ◌<◌, ◌≤◌, ◌+◌, ◌-◌, ◌==◌, ◌&&◌, not, ℕ, zero, suc, Bool, true, false, IsTrue, if◌then◌else◌, nat_le, nat_abs, int_lt, pos, is_none, List, [], ◌∷◌, ◌++◌, map, length, slice_get, slice_set, Option, Some, None, IsSomeAnd, Result, Ok, Err, refl, ap, sym, ◌∙◌, subst, length-append, arith}
+use Rattle.std.proofs.Common.{◌≡◌, ◌≢◌, ◌⊎◌, inl, inr, ◌<◌, ◌+◌, ◌-◌, ◌==◌, ◌&&◌, not, ℕ, zero, suc, Bool, true, false, IsTrue, if◌then◌else◌, nat_abs, int_lt, pos, is_none, List, [], ◌∷◌, ◌++◌, length, slice_get, slice_set, Option, Some, None, IsSomeAnd, Result, Ok, Err, refl, ap, sym, ◌∙◌, subst, length-append, arith}
 use Rattle.std.proofs.lemmas.Bool.Decides.{eqb_tells}
-use Rattle.std.proofs.lemmas.List.{length-map}
-use Rattle.std.proofs.lemmas.List.FromFn.{length-enumerate_from}
 use Rattle.std.proofs.lemmas.Option.{slice_get_within}
 use Rattle.mpc_values.specs.declared.values.Obj.{Obj}
 use Rattle.mpc_values.specs.declared.values.Obj.TheVariants.{Dyn}
@@ -12,12 +10,11 @@ use Rattle.mpc_values.specs.declared.faults.Fault.TheVariants.{NotInit, BadComm,
 use Rattle.memory_model.specs.declared.kinds.Span.{Span}
 use Rattle.memory_model.specs.Memory.{Memory, object_of}
 use Rattle.memory_model.specs.Marks.{Marks}
-use Rattle.memory_model.specs.Ranges.{span_of, with_words_at}
-use Rattle.memory_model.specs.Names.{NamesAreLeft}
+use Rattle.memory_model.specs.Ranges.{with_words_at}
 use Rattle.mpi_args.specs.Arguments.{is_proc_null, is_peer, is_tag_argument}
 use Rattle.mpi_queue.specs.declared.postings.Posting.{Posting}
-use Rattle.mpi_queue.specs.Fits.{is_match, is_fit}
-use Rattle.mpi_queue.specs.History.{Made, is_open_to, numbered, with_partner, made_with, partner_of, with_posting, IsPartner}
+use Rattle.mpi_queue.specs.Fits.{is_fit}
+use Rattle.mpi_queue.specs.History.{Made, is_open_to, with_partner, made_with, partner_of, with_posting, IsPartner}
 use Rattle.mpi_queue.proofs.Partners as partners
 use Rattle.mpi_queue.proofs.Changes.{with_posting-made, with_posting-joined, with_posting-others}
 use Rattle.mpi_queue.proofs.Histories.{length-with_partner}
@@ -35,10 +32,10 @@ use Rattle.run_model.specs.World.{Core}
 use Rattle.run_model.specs.Owners.{owner_of}
 use Rattle.mpc_values.specs.declared.answers.Answer.TheVariants.{Posted}
 use Rattle.run_model.specs.Outcomes.{Outcome, Does, requests_at, is_inside, state_of, requests_of, with_requests}
-use Rattle.run_model.specs.Posting.{post, asked, asked_in, asked_at, barred, envelope, carries, memory_after, offered, partner_carried, posted, posted_with, with_nobody, with_request}
-use Rattle.run_model.specs.Separate.{OwnPlaces, MetReceive, Keeps, LeavesOthers}
+use Rattle.run_model.specs.Posting.{post, asked, asked_in, asked_at, barred, memory_after, offered, partner_carried}
+use Rattle.run_model.specs.Separate.{OwnPlaces, MetReceive, LeavesOthers}
 use Rattle.run_model.proofs.Lists.{get_set_same, get_before, length_set}
-use Rattle.run_model.proofs.Places.{owner_apart, own_name, span_owner, words_apart, words_dead}
+use Rattle.run_model.proofs.Places.{owner_apart, span_owner, words_apart, words_dead}
 use Rattle.run_model.proofs.Leaving.{Left, Leaves, does_leave, fails_leave, left_requests, requests_set}
 
 -- the places of what is posted are of the copy that its own task touches

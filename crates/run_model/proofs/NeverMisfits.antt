@@ -1,14 +1,13 @@
 -- A program that enters only singles that it has is given no answer that it cannot read.
-use Rattle.std.proofs.Common.{◌≡◌, ◌≢◌, ◌⊎◌, inl, inr, ◌==◌, ℕ, zero, suc, Bool, true, false, T, if◌then◌else◌, nat_le, List, [], ◌∷◌, ◌++◌, replicate, slice_get, length, Option, Some, None, refl, ap, sym, ◌∙◌, subst}
+use Rattle.std.proofs.Common.{◌≡◌, ◌≢◌, ◌⊎◌, inl, inr, ◌==◌, ℕ, Bool, true, false, T, if◌then◌else◌, nat_le, List, [], ◌∷◌, ◌++◌, Option, Some, None, refl, ap, sym, ◌∙◌, subst}
 use Rattle.std.proofs.lemmas.Bool.Decides.{eqb_tells}
 use Rattle.mpc_values.specs.declared.calls.Call.{Call}
 use Rattle.mpc_values.specs.declared.answers.Answer.{Answer}
 use Rattle.mpc_values.specs.declared.faults.Fault.TheVariants.{Calls}
-use Rattle.mpc_base.specs.declared.journals.Out.{Out}
 use Rattle.mpc_base.specs.declared.journals.Out.TheVariants as out
 use Rattle.mpc_base.specs.declared.journals.Entry.{Entry}
 use Rattle.c_tree.specs.Programs.{Program}
-use Rattle.c_tree.specs.Asking.{Next, Asks, Over, Misfit, fits, kind_of, is_of}
+use Rattle.c_tree.specs.Asking.{Asks, Over, Misfit, fits, kind_of}
 use Rattle.c_tree.specs.Next.{next_of}
 use Rattle.c_tree.specs.NextLaws.{DoesNotFit}
 use Rattle.c_tree.proofs.Fair as fair
@@ -16,7 +15,7 @@ use Rattle.run_model.specs.Setup.{Setup, tasks_of}
 use Rattle.run_model.specs.World.{World}
 use Rattle.run_model.specs.Outcomes.{Outcome, Does, Fails, Waits}
 use Rattle.run_model.specs.Act.{act}
-use Rattle.run_model.specs.Steps.{out_of, tried, course_of, answers_at, answers_of, answers_after}
+use Rattle.run_model.specs.Steps.{out_of, tried, course_of, answers_of}
 use Rattle.run_model.specs.Run.{Ran, run, at_start}
 use Rattle.run_model.specs.Stepping.{IsStep, answer_told}
 use Rattle.run_model.specs.Fitting.{IsKnown, AsksKnown}

@@ -1,5 +1,5 @@
 -- A posting gets its task's next request and the next number.
-use Rattle.std.proofs.Common.{◌≡◌, ◌⊎◌, ◌<◌, ◌+◌, ℕ, Bool, true, false, T, if◌then◌else◌, nat_le, length, Option, Some, None, refl, ap, sym, ◌∙◌, subst}
+use Rattle.std.proofs.Common.{◌≡◌, ◌⊎◌, ◌<◌, ◌+◌, ℕ, Bool, true, false, T, if◌then◌else◌, nat_le, length, Option, Some, None, ap, sym, ◌∙◌, subst}
 use Rattle.mpc_values.specs.declared.calls.Call.{Call}
 use Rattle.mpc_values.specs.declared.calls.Call.TheVariants as call
 use Rattle.mpc_values.specs.declared.answers.Answer.{Answer}

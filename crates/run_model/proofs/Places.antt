@@ -6,7 +6,7 @@ use Rattle.mpc_values.specs.declared.values.Obj.{Obj}
 use Rattle.mpc_values.specs.declared.values.Obj.TheVariants.{Glob, Dyn}
 use Rattle.mpc_values.specs.declared.owners.Level.{Level}
 use Rattle.mpc_values.specs.declared.owners.Owner.{Owner}
-use Rattle.mpc_values.specs.declared.owners.Owner.TheVariants.{Task, Inst}
+use Rattle.mpc_values.specs.declared.owners.Owner.TheVariants.{Task}
 use Rattle.mpc_values.specs.declared.faults.Fault.{Fault}
 use Rattle.mpc_values.specs.declared.faults.Fault.TheVariants.{Bounds, PendingTouch}
 use Rattle.topology.specs.declared.core_numbers.CoreNumbers.{CoreNumbers}
@@ -16,7 +16,7 @@ use Rattle.memory_model.specs.declared.kinds.Span.{Span}
 use Rattle.std.specs.FinMap.Entries.{find}
 use Rattle.memory_model.specs.Memory.{Memory, Object, key_cmp, key_of, object_of, with_object}
 use Rattle.memory_model.specs.Marks.{Places, is_some_place}
-use Rattle.memory_model.specs.Ranges.{Range, Within, NoRange, range_in, range_of, span_in, span_of, overwritten, written_in, with_words_at}
+use Rattle.memory_model.specs.Ranges.{Within, NoRange, range_in, span_in, span_of, overwritten, written_in, with_words_at}
 use Rattle.memory_model.proofs.Maps.{read_with_other}
 use Rattle.memory_model.proofs.Accesses.{owner_is}
 use Rattle.run_model.specs.Setup.{Setup}

@@ -1,5 +1,5 @@
 -- Runs by their steps.
-use Rattle.std.proofs.Common.{◌≡◌, ◌≤◌, ◌+◌, ℕ, suc, List, [], ◌∷◌, ◌++◌, map, length, refl, ap, sym, ◌∙◌, subst, append_assoc, length-append, arith}
+use Rattle.std.proofs.Common.{◌≡◌, ◌≤◌, ◌+◌, ℕ, suc, List, [], ◌∷◌, ◌++◌, length, refl, ap, sym, ◌∙◌, subst, append_assoc, length-append, arith}
 use Rattle.mpc_base.specs.declared.journals.Entry.{Entry}
 use Rattle.run_model.specs.Setup.{Setup}
 use Rattle.run_model.specs.World.{World}

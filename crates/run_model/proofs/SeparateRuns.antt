@@ -1,5 +1,5 @@
 -- In every run processes are separate, and numbers are never given again.
-use Rattle.std.proofs.Common.{◌≡◌, ◌≢◌, ◌<◌, ◌+◌, ◌==◌, ℕ, zero, suc, Bool, true, false, if◌then◌else◌, nat_le, List, [], ◌∷◌, ◌++◌, length, replicate, slice_get, Option, Some, None, refl, ap, sym, ◌∙◌, subst, arith, rules}
+use Rattle.std.proofs.Common.{◌≡◌, ◌<◌, ◌+◌, ◌==◌, ℕ, Bool, true, false, if◌then◌else◌, nat_le, List, [], ◌∷◌, ◌++◌, length, slice_get, Some, None, refl, ap, sym, ◌∙◌, subst, rules}
 use Rattle.std.proofs.lemmas.Option.{slice_get_within}
 use Rattle.mpc_values.specs.declared.values.Obj.{Obj}
 use Rattle.mpc_values.specs.declared.values.Obj.TheVariants.{Glob, Dyn}
@@ -9,20 +9,20 @@ use Rattle.mpc_values.specs.declared.owners.StaticVar.{StaticVar}
 use Rattle.mpc_values.specs.declared.faults.Fault.TheVariants.{Calls}
 use Rattle.mpc_base.specs.declared.journals.Entry.{Entry}
 use Rattle.memory_model.specs.declared.kinds.Kind.TheVariants.{Static}
-use Rattle.memory_model.specs.Memory.{Memory, Object, key_of, object_of, with_object}
+use Rattle.memory_model.specs.Memory.{Memory, key_of, object_of, with_object}
 use Rattle.memory_model.specs.Names.{NamesAreLeft}
 use Rattle.memory_model.proofs.Maps.{read_with_other}
 use Rattle.tls_levels.specs.Images.{image_number}
 use Rattle.tls_levels.specs.Owners.{owner_level, owners_of}
 use Rattle.run_model.specs.Setup.{Setup, tasks_of}
-use Rattle.run_model.specs.World.{TaskState, Core, World}
+use Rattle.run_model.specs.World.{Core, World}
 use Rattle.run_model.specs.Start.{with_copies, with_copies_of, first_memory, first_task, first_course}
-use Rattle.run_model.specs.Outcomes.{Outcome, Does, Fails, Waits, state_at, state_of}
+use Rattle.run_model.specs.Outcomes.{Outcome, Does, Fails, Waits, state_of}
 use Rattle.run_model.specs.Act.{act}
 use Rattle.run_model.specs.Steps.{tried, course_of, core_after}
 use Rattle.run_model.specs.Run.{Ran, run, at_start}
 use Rattle.run_model.specs.Stepping.{IsStep}
-use Rattle.run_model.specs.Separate.{OwnPlaces, Keeps, LeavesOthers}
+use Rattle.run_model.specs.Separate.{OwnPlaces}
 use Rattle.run_model.proofs.Lists.{length_set}
 use Rattle.run_model.proofs.Steps.{step_is, after_is}
 use Rattle.run_model.proofs.Answers.{length_replicate, courses_are}

@@ -1,12 +1,12 @@
 -- How a step comes about.
-use Rattle.std.proofs.Common.{◌≡◌, ℕ, Bool, true, false, if◌then◌else◌, slice_get, Option, Some, None, refl, ap, sym, ◌∙◌}
+use Rattle.std.proofs.Common.{◌≡◌, ℕ, Bool, true, false, if◌then◌else◌, slice_get, Option, Some, None, refl, ap, sym}
 use Rattle.mpc_base.specs.declared.journals.Entry.{Entry}
 use Rattle.c_tree.specs.Asking.{Next, Asks, Over, Misfit}
 use Rattle.c_tree.specs.Next.{next_of}
 use Rattle.run_model.specs.declared.progress.Course.{Course}
 use Rattle.run_model.specs.Setup.{Setup}
 use Rattle.run_model.specs.World.{World}
-use Rattle.run_model.specs.Steps.{Step, Stays, Makes, made_by, tried, entry_of, out_of, core_after, log_after, visited, answers_of}
+use Rattle.run_model.specs.Steps.{Step, Stays, Makes, tried, entry_of, out_of, core_after, log_after, visited, answers_of}
 use Rattle.run_model.specs.Go.{may_go, go_next, go_with, go}
 use Rattle.run_model.specs.Stepping.{IsStep}
 

@@ -1,5 +1,5 @@
 -- How a run is in a world: whether it goes on, or how it has ended.
-use Rattle.std.specs.Prelude.{ℕ, ◌||◌, Bool, if◌then◌else◌, List, Option, Some, None}
+use Rattle.std.specs.Prelude.{ℕ, ◌||◌, Bool, if◌then◌else◌, Option, Some, None}
 use Rattle.std.specs.List.{list_all, enumerate_from}
 use Rattle.mpc_base.specs.declared.journals.End.{End}
 use Rattle.mpc_base.specs.declared.journals.End.TheVariants as end

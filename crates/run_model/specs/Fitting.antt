@@ -1,5 +1,5 @@
 -- When an answer is one of its call's kind, so that the program which asked goes on.
-use Rattle.std.specs.Prelude.{◌≡◌, ◌≢◌, ℕ, T, List, Option, Some, None}
+use Rattle.std.specs.Prelude.{◌≡◌, ℕ, T, List, Option, Some, None}
 use Rattle.mpc_values.specs.declared.calls.Call.{Call}
 use Rattle.mpc_values.specs.declared.calls.Call.TheVariants as call
 use Rattle.mpc_values.specs.declared.answers.Answer.{Answer}

@@ -1,5 +1,5 @@
 -- What a journal tells of postings and matches.
-use Rattle.std.specs.Prelude.{◌≡◌, ◌≢◌, ◌⊎◌, ℕ, ◌+◌, ◌<◌, Bool, List, take, slice_get, Option, Some, None, option_and_then}
+use Rattle.std.specs.Prelude.{◌≡◌, ◌≢◌, ◌⊎◌, ℕ, ◌<◌, Bool, List, take, slice_get, Option, Some, None, option_and_then}
 use Rattle.mpc_values.specs.declared.calls.Call.{Call}
 use Rattle.mpc_values.specs.declared.answers.Answer.TheVariants.{Posted}
 use Rattle.mpc_base.specs.declared.journals.Out.{Out}

@@ -6,7 +6,7 @@ use Rattle.mpc_base.specs.declared.journals.End.TheVariants as end
 use Rattle.mpc_base.specs.declared.journals.MapRow.{MapRow}
 use Rattle.memory_model.specs.Memory.{Memory}
 use Rattle.run_model.specs.declared.records.RunRecord.{RunRecord}
-use Rattle.run_model.specs.Setup.{Setup, setup_of}
+use Rattle.run_model.specs.Setup.{setup_of}
 use Rattle.run_model.specs.World.{World}
 use Rattle.run_model.specs.Run.{world_of, LegalRun}
 use Rattle.run_model.specs.Ending.{ending}

@@ -1,5 +1,5 @@
 -- What laws say of steps and of runs.
-use Rattle.std.specs.Prelude.{◌≡◌, ◌≤◌, ◌==◌, ◌+◌, ◌*◌, ℕ, true, Bool, if◌then◌else◌, List, filter_map, length, slice_get, All, Option, Some, None}
+use Rattle.std.specs.Prelude.{◌≡◌, ◌≤◌, ◌==◌, ◌+◌, ◌*◌, ℕ, true, if◌then◌else◌, List, filter_map, length, slice_get, All, Option, Some, None}
 use Rattle.std.specs.List.{sum_by}
 use Rattle.mpc_values.specs.declared.calls.Call.{Call}
 use Rattle.mpc_values.specs.declared.answers.Answer.{Answer}

@@ -2,7 +2,7 @@ use Rattle.std.proofs.Common.{◌∙◌, refl, ap, length, ◌||◌}
 use Rattle.mpc_values.specs.declared.values.Obj.TheVariants.{Dyn}
 use Rattle.mpc_values.specs.declared.owners.Owner.TheVariants.{Task}
 use Rattle.memory_model.specs.Marks.{barred_to_stores}
-use Rattle.memory_model.specs.Access.{drop_in, Breaks, ends}
+use Rattle.memory_model.specs.Access.{drop_in}
 use Rattle.memory_model.proofs.Accesses.{some_place}
 use Rattle.memory_model.proofs.laws.pending_places_are_barred.Goals as goal
 
