@@ -71,7 +71,7 @@ in_own setup m marks held task o (Some view) =
     (at_own setup m held task o view _ (λ span e. span_owner (owner_of setup task) (barred marks o.send) m o.at (nat_abs o.count) span e)))))
 
 -- how many postings there are after one more
-length-with_posting : (all : List Made) (p : Posting) → length (with_posting all p) ≡ length all + 1
+pub length-with_posting : (all : List Made) (p : Posting) → length (with_posting all p) ≡ length all + 1
 unfolding with_posting
 length-with_posting all p = by (partner_of all p)
   where
@@ -80,7 +80,7 @@ length-with_posting all p = by (partner_of all p)
     by None = length-append all _
 
 -- the postings that were there have their envelopes
-same_posting : (all : List Made) (p : Posting) (index : ℕ) (was now' : Made) → slice_get all index ≡ Some was → slice_get (with_posting all p) index ≡ Some now' → now'.posting ≡ was.posting
+pub same_posting : (all : List Made) (p : Posting) (index : ℕ) (was now' : Made) → slice_get all index ≡ Some was → slice_get (with_posting all p) index ≡ Some now' → now'.posting ≡ was.posting
 same_posting all p index was now' at at' = by (partner_of all p) refl
   where
     envelope_is : (x : Made) → slice_get (with_posting all p) index ≡ Some x → now'.posting ≡ x.posting
@@ -109,11 +109,11 @@ same_posting all p index was now' at at' = by (partner_of all p) refl
             (ap (slice_get (with_posting all p)) (sym place) ∙ with_posting-joined all p n was e (ap (slice_get all) place ∙ at))
         decide (inr h) = other (λ h'. h.1 (number_is n (index + 1) (sym e ∙ h')))
 
-get_last : {X : Type 0} (xs : List X) (x : X) → slice_get (xs ++ x ∷ []) (length xs) ≡ Some x
+pub get_last : {X : Type 0} (xs : List X) (x : X) → slice_get (xs ++ x ∷ []) (length xs) ≡ Some x
 get_last [] x = refl
 get_last (y ∷ xs) x = get_last xs x
 
-get_there : {X : Type 0} (xs : List X) (i : ℕ) → i < length xs → (x : X) × (slice_get xs i ≡ Some x)
+pub get_there : {X : Type 0} (xs : List X) (i : ℕ) → i < length xs → (x : X) × (slice_get xs i ≡ Some x)
 get_there [] i h = absurd (omega (arith, h))
 get_there (y ∷ xs) zero h = (y, refl)
 get_there (y ∷ xs) (suc i) h = get_there xs i (omega (arith, h))

@@ -19,6 +19,7 @@ ghost use Rattle.run_model.specs.Steps.{Stays, Makes, answers_of};
 ghost use Rattle.run_model.specs.Go.{go, is_blocked};
 ghost use Rattle.run_model.specs.Ending.{ending};
 ghost use Rattle.run_model.specs.Run.{run, ran_step, at_start, order_of, world_of};
+ghost use Rattle.run_model.specs.Orderly.{Once, Unovertaken};
 ghost use Rattle.run_model.specs.Cases.{TellingRuns};
 ghost use Rattle.run_model.specs.Fitting.{IsKnown, AsksKnown};
 ghost use Rattle.run_model.specs.Separate.{OwnPlaces, Keeps, LeavesOthers, NextNumbers};
@@ -78,6 +79,13 @@ pub fn processes_are_separate()
     ensures others { (setup : Setup) (order : List ℕ) (task : ℕ) (entry : Entry) (after : World) → go setup (run setup order).world task ≡ Makes entry after → LeavesOthers (run setup order).world.core after.core task }
     ensures places { (setup : Setup) (order : List ℕ) → OwnPlaces setup (run setup order).world.core }
     ensures touched { (setup : Setup) (task other : ℕ) (obj : Obj) → other ≢ task → owner_of setup task obj ≢ Task other }
+{}
+
+/// In every run each message arrives once, and among the sends of one sender that fit a receive, and the receives of one
+/// receiver that fit a send, the earlier ones are matched first (MPI 3.1, section 3.5).
+pub fn messages_arrive_once_and_in_order()
+    ensures once { (setup : Setup) (order : List ℕ) → Once (run setup order).entries }
+    ensures in_order { (setup : Setup) (order : List ℕ) → Unovertaken setup (run setup order).entries }
 {}
 
 /// The numbers of requests, postings, communicators and objects are never given again: nothing that has one is taken out,
