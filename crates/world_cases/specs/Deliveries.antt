@@ -1,12 +1,12 @@
 -- Which message comes, and what of it, from the first entry to the last: by tag, by length, by datatype, and from nobody.
-use Rattle.std.specs.Prelude.{ℕ, pos, negsuc, List, [], ◌∷◌, ◌++◌, replicate, codes}
+use Rattle.std.specs.Prelude.{pos, List, [], ◌∷◌, ◌++◌, replicate, codes}
 use Rattle.mpc_values.specs.declared.values.Word.TheVariants.{Req, Null, Int}
 use Rattle.mpc_values.specs.declared.values.Datatype.TheVariants as datatype
 use Rattle.mpc_values.specs.declared.calls.Call.TheVariants as call
 use Rattle.mpc_values.specs.declared.faults.Fault.TheVariants as fault
 use Rattle.run_model.specs.Setup.{Setup}
 use Rattle.run_model.specs.Played.{Line, asks, Goes}
-use Rattle.run_model.specs.Scenes.{private, int, flat, at, made, W, send, recv, any_one, proc_null, done, gives, got, got_nothing, posted, broke}
+use Rattle.run_model.specs.Scenes.{private, int, flat, at, made, W, send, recv, any_one, proc_null, done, gives, got_nothing, posted, broke}
 use Rattle.world_cases.specs.Framed.{s, opens, closes, closes_plain, rank, value, sets, stores_status, prints, sends, receives}
 
 -- `int a; int b;`. Line 9 is `if (r == 0) { a = 50; MPI_Send(&a, 1, MPI_INT, 1, 5, MPI_COMM_WORLD); a = 60;`

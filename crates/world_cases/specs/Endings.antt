@@ -11,7 +11,7 @@ use Rattle.run_model.specs.Ending.{ending}
 use Rattle.run_model.specs.Ranks.{rank_ends, status_of}
 use Rattle.run_model.specs.Played.{Line, asks, Goes, after}
 use Rattle.run_model.specs.Scenes.{int, flat, made, W, plain, any_one, done, gives, waits, broke, nothing}
-use Rattle.world_cases.specs.Framed.{opens, closes_plain, rank, value, sets, prints}
+use Rattle.world_cases.specs.Framed.{opens, closes_plain, rank, sets, prints}
 
 -- Two tasks. Lines 9 to 14 are `int *p = malloc(40); p[0] = 1;`, `if (r == 0) free(p);`, `MPI_Barrier(MPI_COMM_WORLD);`,
 -- `if (r == 1) { p = malloc(40); p[0] = 5; }`, `MPI_Barrier(MPI_COMM_WORLD);` and `printf("%d\n", p[0]);`.

@@ -9,14 +9,14 @@
 --       MPI_Finalize();
 --       return 0;
 --     }
-use Rattle.std.specs.Prelude.{ℕ, ℤ, pos, ◌+◌, List, [], ◌∷◌, ◌++◌, map, length, codes}
+use Rattle.std.specs.Prelude.{ℕ, ℤ, pos, ◌+◌, List, [], ◌∷◌, ◌++◌, map, length}
 use Rattle.mpc_values.specs.declared.values.Word.{Word}
 use Rattle.mpc_values.specs.declared.values.Word.TheVariants.{Int, Req}
 use Rattle.mpc_values.specs.declared.values.Obj.TheVariants.{Dyn}
 use Rattle.mpc_values.specs.declared.calls.Call.{Call}
 use Rattle.mpc_values.specs.declared.calls.Call.TheVariants as call
 use Rattle.run_model.specs.Played.{Line, asks}
-use Rattle.run_model.specs.Scenes.{int, made, W, done, gives, got, got_nothing, posted, waits, recv, send}
+use Rattle.run_model.specs.Scenes.{int, made, W, done, gives, got, got_nothing, posted}
 
 -- the places of r and of s
 abbrev pub r : Word

@@ -1,5 +1,5 @@
 -- Shared variables of two NUMA instances and of a node, from the first entry to the last.
-use Rattle.std.specs.Prelude.{◌≡◌, ℕ, pos, ◌+◌, List, [], ◌∷◌, ◌++◌, map, length, codes}
+use Rattle.std.specs.Prelude.{◌≡◌, ℕ, ◌+◌, List, [], ◌∷◌, ◌++◌, map, length, codes}
 use Rattle.std.specs.List.{range_with_len}
 use Rattle.mpc_values.specs.declared.owners.Level.TheVariants.{Numa, Node}
 use Rattle.mpc_values.specs.declared.calls.Call.TheVariants as call

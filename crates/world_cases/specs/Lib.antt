@@ -2,15 +2,12 @@ pub mod Framed
 pub mod Frames
 pub mod Stencil
 pub mod Matching
-pub mod EagerSends
 pub mod TagsAndOrder
 pub mod Lengths
 pub mod Held
 pub mod Pending
-pub mod LongMessage
 pub mod Communicators
 pub mod Collectives
-pub mod FourFolds
 pub mod Sharing
 pub mod Objects
 pub mod Programs

@@ -2,7 +2,6 @@
 use Rattle.std.specs.Prelude.{◌≡◌, ℕ, pos, ◌+◌, ◌*◌, List, [], ◌∷◌, ◌++◌, map, flat_map, slice_index, codes}
 use Rattle.std.specs.List.{range_with_len}
 use Rattle.std.specs.Fmt.{decimal}
-use Rattle.mpc_values.specs.declared.values.Word.TheVariants.{Undef}
 use Rattle.mpc_values.specs.declared.values.Op.TheVariants as op
 use Rattle.mpc_values.specs.declared.calls.Call.TheVariants as call
 use Rattle.mpc_values.specs.declared.collectives.Coll.{Coll}
@@ -14,9 +13,9 @@ use Rattle.mpc_base.specs.declared.journals.RankState.TheVariants.{Exit, Stopped
 use Rattle.mpc_base.specs.declared.journals.RankEnd.{RankEnd}
 use Rattle.run_model.specs.Setup.{Setup}
 use Rattle.run_model.specs.Ending.{ending}
-use Rattle.run_model.specs.Ranks.{rank_ends, status_of}
+use Rattle.run_model.specs.Ranks.{rank_ends}
 use Rattle.run_model.specs.Played.{Line, asks, Goes, after}
-use Rattle.run_model.specs.Scenes.{private, int, flat, at, W, coll, plain, done, gives, waits, broke, nothing}
+use Rattle.run_model.specs.Scenes.{private, int, flat, at, W, coll, plain, done, waits, broke, nothing}
 use Rattle.world_cases.specs.Framed.{opens, closes_plain, rank, value, sets, prints}
 
 -- Three tasks. Line 9 is `if (r < 2) MPI_Barrier(MPI_COMM_WORLD);`

@@ -1,5 +1,5 @@
 -- Communicators are split, duplicated and freed, from the first entry to the last.
-use Rattle.std.specs.Prelude.{ℕ, ℤ, pos, negsuc, ◌==◌, ◌+◌, if◌then◌else◌, List, [], ◌∷◌, ◌++◌, flat_map, codes}
+use Rattle.std.specs.Prelude.{ℕ, ℤ, pos, negsuc, ◌+◌, List, [], ◌∷◌, ◌++◌, flat_map, codes}
 use Rattle.std.specs.List.{range_with_len}
 use Rattle.mpc_values.specs.declared.values.Word.TheVariants.{Comm}
 use Rattle.mpc_values.specs.declared.calls.Call.TheVariants as call
@@ -8,7 +8,7 @@ use Rattle.mpc_values.specs.declared.collectives.CollKind.TheVariants as what
 use Rattle.run_model.specs.Setup.{Setup}
 use Rattle.run_model.specs.Played.{Line, asks, Goes}
 use Rattle.run_model.specs.Scenes.{private, int, flat, at, made, W, send, send_on, recv, recv_on, plain, done, gives, waits}
-use Rattle.world_cases.specs.Framed.{r, opens, closes, rank, value, sets, prints, sends, receives}
+use Rattle.world_cases.specs.Framed.{opens, closes, rank, value, sets, prints, sends, receives}
 
 -- Five tasks. Line 9 is `MPI_Comm d; int k, n; MPI_Comm_split(MPI_COMM_WORLD, r == 3 ? MPI_UNDEFINED : r % 2, r == 0 ? 5 : 0, &d);`
 -- `if (d == MPI_COMM_NULL) printf("none\n"); else { MPI_Comm_rank(d, &k); MPI_Comm_size(d, &n); printf("%d of %d\n", k, n); }`

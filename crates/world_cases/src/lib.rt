@@ -3,15 +3,12 @@
 #![tactic(auto)]
 
 ghost use Rattle.world_cases.specs.Matching.{Matching};
-ghost use Rattle.world_cases.specs.EagerSends.{EagerSends};
 ghost use Rattle.world_cases.specs.TagsAndOrder.{TagsAndOrder};
 ghost use Rattle.world_cases.specs.Lengths.{Lengths};
 ghost use Rattle.world_cases.specs.Held.{Held};
 ghost use Rattle.world_cases.specs.Pending.{Pending};
-ghost use Rattle.world_cases.specs.LongMessage.{LongMessage};
 ghost use Rattle.world_cases.specs.Communicators.{Communicators};
 ghost use Rattle.world_cases.specs.Collectives.{Collectives};
-ghost use Rattle.world_cases.specs.FourFolds.{FourFolds};
 ghost use Rattle.world_cases.specs.Sharing.{Sharing};
 ghost use Rattle.world_cases.specs.Objects.{Objects};
 ghost use Rattle.world_cases.specs.Programs.{Programs};
@@ -30,11 +27,6 @@ ghost use Rattle.world_cases.specs.Endings.{Endings};
 /// Six postings for one receiver meet as the queue should match them (MPI 3.1, section 3.5).
 pub fn matching()
     ensures { Matching }
-{}
-
-/// Two ranks send to each other and then receive: with eager sends both finish, without both are blocked.
-pub fn eager_sends()
-    ensures { EagerSends }
 {}
 
 /// A receive takes a message by tag, by source, and of two that fit the one sent first.
@@ -57,11 +49,6 @@ pub fn pending()
     ensures { Pending }
 {}
 
-/// The pending rule over 2,000 words that two tasks share.
-pub fn long_message()
-    ensures { LongMessage }
-{}
-
 /// Communicators are split by colour and key, duplicated, and freed.
 pub fn communicators()
     ensures { Communicators }
@@ -70,11 +57,6 @@ pub fn communicators()
 /// What each rank gets of a collective call, who waits, and what differs.
 pub fn collectives()
     ensures { Collectives }
-{}
-
-/// Four ranks fold by Scan, Exscan and Allreduce.
-pub fn four_folds()
-    ensures { FourFolds }
 {}
 
 /// Shared variables and their directives, over two instances.
