@@ -1,6 +1,7 @@
 -- What every call leaves.
-use Rattle.std.proofs.Common.{◌≡◌, inl, ◌<◌, ◌≤◌, ℕ, ℤ, pos, negsuc, zero, suc, position, Bool, true, false, if◌then◌else◌, List, [], ◌∷◌, map, length, slice_get, Option, Some, None, Result, Ok, Err, refl, sym, ◌∙◌, length-append, arith}
+use Rattle.std.proofs.Common.{◌≡◌, ◌+◌, inl, ◌<◌, ◌≤◌, ℕ, ℤ, pos, negsuc, zero, suc, position, Bool, true, false, if◌then◌else◌, List, [], ◌∷◌, map, length, slice_get, Option, Some, None, Result, Ok, Err, refl, sym, ◌∙◌, length-append, arith}
 use Rattle.std.specs.List.{list_any, list_all}
+use Rattle.std.proofs.lemmas.List.{length-map}
 use Rattle.mpc_values.specs.declared.values.Word.{Word}
 use Rattle.mpc_values.specs.declared.values.Obj.TheVariants.{Dyn}
 use Rattle.mpc_values.specs.declared.owners.Owner.TheVariants.{Task}
@@ -30,11 +31,11 @@ use Rattle.mpi_comm.specs.Communicators.{Group, size_of, old_group_of, view_of}
 use Rattle.mpi_comm.specs.Splitting.{groups_of}
 use Rattle.mpi_comm.specs.Making.{made_by, freed, freed_at}
 use Rattle.mpi_coll.specs.declared.arrivals.Arrival.{Arrival}
-use Rattle.mpi_coll.specs.Meetings.{latest_arrival, is_full}
+use Rattle.mpi_coll.specs.Meetings.{next_meeting, latest_arrival, is_full}
 use Rattle.mpi_coll.specs.Changes.{chosen_in, comms_after}
 use Rattle.hls_sync.specs.declared.visits.Visit.{Visit}
-use Rattle.hls_sync.specs.Meetings.{Site}
-use Rattle.hls_sync.specs.Ways.{way_of, may_go, may_leave_bar, running_visit, with_exit}
+use Rattle.hls_sync.specs.Meetings.{Site, next_visit}
+use Rattle.hls_sync.specs.Ways.{way_of, with_visit, may_go, may_leave_bar, running_visit, with_exit}
 use Rattle.run_model.specs.declared.progress.Phase.TheVariants.{After}
 use Rattle.run_model.specs.Setup.{Setup}
 use Rattle.run_model.specs.World.{Core}
@@ -48,7 +49,7 @@ use Rattle.run_model.specs.Collectives as collectives
 use Rattle.run_model.specs.Sharing as sharing
 use Rattle.run_model.specs.Act.{act}
 use Rattle.run_model.proofs.Lists.{length_set}
-use Rattle.run_model.proofs.Places.{owner_apart, found_owner, words_apart, words_dead}
+use Rattle.run_model.proofs.Places.{owner_apart, found_owner, words_apart, words_dead, words_ordered}
 use Rattle.run_model.proofs.Leaving.{Left, Leaves, does_leave, fails_leave, waits_leave, leave_if, leave_inside, leave_group, quiet_left, same_own, left_same, left_state, left_requests, accessed_leaves, each_access}
 use Rattle.run_model.proofs.LeavingMessages.{post_leaves}
 
@@ -61,13 +62,13 @@ same_leaves setup core task answer = does_leave setup core core task answer (lef
 
 -- the calls that complete requests take none out
 abbrev Longer : List Request → Completion → Type 0
-Longer requests (Ends index status after) = length requests ≤ length after
+Longer requests (Ends index status after) = (length requests ≤ length after) × (length after ≤ length requests + 1)
 Longer requests (Breaks fault) = Unit {0}
 Longer requests NotReady = Unit {0}
 
-without_longer : (requests : List Request) (number : ℕ) (request : Request) → length requests ≤ length (without_request requests number request)
-without_longer requests zero request = omega arith
-without_longer requests (suc index) request = omega (arith, length_set requests index (record request { active = false }))
+without_longer : (requests : List Request) (number : ℕ) (request : Request) → (length requests ≤ length (without_request requests number request)) × (length (without_request requests number request) ≤ length requests + 1)
+without_longer requests zero request = (omega arith, omega arith)
+without_longer requests (suc index) request = (omega (arith, length_set requests index (record request { active = false })), omega (arith, length_set requests index (record request { active = false })))
 
 ended_longer : (index : ℤ) (requests : List Request) (number : ℕ) (request : Request) (o : Option (Result Status Fault)) → Longer requests (ended index requests number request o)
 ended_longer index requests number request None = tt
@@ -75,7 +76,7 @@ ended_longer index requests number request (Some (Ok status)) = without_longer r
 ended_longer index requests number request (Some (Err fault)) = tt
 
 in_longer : (postings : List Made) (carried : List Carried) (requests : List Request) (index : ℤ) (named' : Named) → Longer requests (completion_in postings carried requests index named')
-in_longer postings carried requests index NullRequest = omega arith
+in_longer postings carried requests index NullRequest = (omega arith, omega arith)
 in_longer postings carried requests index (Active number request) = ended_longer index requests number request (told_of postings carried request.awaited)
 in_longer postings carried requests index NotActive = tt
 
@@ -94,22 +95,22 @@ longer_if requests false x y h g = g
 any_longer : (postings : List Made) (carried : List Carried) (requests : List Request) (words : List Word) → Longer requests (any_completion postings carried requests words)
 any_longer postings carried requests words =
     longer_if requests (list_any (λ word. is_not_active (named requests word)) words) _ _ tt
-    (longer_if requests (list_all (λ word. is_null (named requests word)) words) (Ends (negsuc 2) empty_status requests) _ (omega arith)
+    (longer_if requests (list_all (λ word. is_null (named requests word)) words) (Ends (negsuc 2) empty_status requests) _ (omega arith, omega arith)
     (at_longer postings carried requests words (position (λ word. is_ready postings carried (named requests word)) words)))
 
 module _ (setup : Setup) (core : Core) (task : ℕ) where
   completed_leaves : (c : Completion) → Longer (requests_of core task) c → Leaves setup core task (completing.completed core task c)
-  completed_leaves (Ends index status requests) h = does_leave setup core _ task _ (left_requests setup core task requests h)
+  completed_leaves (Ends index status requests) h = does_leave setup core _ task _ (left_requests setup core task requests h.0 h.1)
   completed_leaves (Breaks fault) h = fails_leave setup core task fault
   completed_leaves NotReady h = waits_leave setup core task
 
   tested_leaves : (c : Completion) → Longer (requests_of core task) c → Leaves setup core task (completing.tested core task c)
-  tested_leaves (Ends index status requests) h = does_leave setup core _ task _ (left_requests setup core task requests h)
+  tested_leaves (Ends index status requests) h = does_leave setup core _ task _ (left_requests setup core task requests h.0 h.1)
   tested_leaves (Breaks fault) h = fails_leave setup core task fault
   tested_leaves NotReady h = same_leaves setup core task _
 
   any_leaves : (c : Completion) → Longer (requests_of core task) c → Leaves setup core task (completing.any_completed core task c)
-  any_leaves (Ends index status requests) h = does_leave setup core _ task _ (left_requests setup core task requests h)
+  any_leaves (Ends index status requests) h = does_leave setup core _ task _ (left_requests setup core task requests h.0 h.1)
   any_leaves (Breaks fault) h = fails_leave setup core task fault
   any_leaves NotReady h = waits_leave setup core task
 
@@ -148,6 +149,16 @@ module _ (setup : Setup) (core : Core) (task : ℕ) where
   comms_if true x y h g = h
   comms_if false x y h g = g
 
+  abbrev one_arrival : Group → Coll → List Word → Arrival
+  one_arrival group coll words = record {
+    comm = group.comm;
+    rank = group.rank;
+    meeting = next_meeting core.arrivals group.comm group.rank;
+    coll = coll;
+    given = words;
+    left = false;
+  }
+
   arrived_left : (group : Group) (coll : Coll) (words : List Word) → Left setup core (collectives.arrived core group coll words) task
   arrived_left group coll words = quiet_left setup core (collectives.arrived core group coll words) task (record {
     memory = refl;
@@ -158,6 +169,10 @@ module _ (setup : Setup) (core : Core) (task : ℕ) where
     made = λ other. refl;
     tasks = refl;
     lists = refl;
+    few = λ other. omega arith;
+    arrivals = omega (arith, length-append core.arrivals (one_arrival group coll words ∷ []));
+    visits = omega arith;
+    exits = omega arith;
   })
 
   into_leaves : (group : Group) (coll : Coll) (words : List Word) (into : Result (Option Span) Fault) → Leaves setup core task (collectives.arrive_into core group coll words into)
@@ -182,6 +197,15 @@ module _ (setup : Setup) (core : Core) (task : ℕ) where
       made = λ other. omega arith;
       names = λ other left number past. words_dead core.memory places words (Task other) (Dyn number) (left number past);
     };
+    few = record {
+      postings = omega arith;
+      requests = λ other. omega arith;
+      made = λ other. omega arith;
+      arrivals = omega (arith, length-map core.arrivals (λ (a : Arrival). if collectives.leaves group a then record a { left = true } else a));
+      visits = omega arith;
+      exits = omega arith;
+    };
+    order = words_ordered core.memory places words;
     tasks = refl;
     lists = refl;
     own = same_own setup core _ refl refl;
@@ -214,11 +238,18 @@ module _ (setup : Setup) (core : Core) (task : ℕ) where
   goes_leaves true = same_leaves setup core task _
   goes_leaves false = waits_leave setup core task
 
-  visits_left : (visits : List Visit) → Left setup core (record core { visits = visits }) task
-  visits_left visits = quiet_left setup core (record core { visits = visits }) task (record { memory = refl; postings = refl; carried = refl; comms = omega arith; requests = λ other. omega arith; made = λ other. refl; tasks = refl; lists = refl })
+  visits_left : (visits : List Visit) → length visits ≤ length core.visits + 1 → Left setup core (record core { visits = visits }) task
+  visits_left visits g = quiet_left setup core (record core { visits = visits }) task (record { memory = refl; postings = refl; carried = refl; comms = omega arith; requests = λ other. omega arith; made = λ other. refl; tasks = refl; lists = refl; few = λ other. omega arith; arrivals = omega arith; visits = g; exits = omega arith })
 
-  exits_left : (exits : List Visit) → Left setup core (record core { exits = exits }) task
-  exits_left exits = quiet_left setup core (record core { exits = exits }) task (record { memory = refl; postings = refl; carried = refl; comms = omega arith; requests = λ other. omega arith; made = λ other. refl; tasks = refl; lists = refl })
+  exits_left : (exits : List Visit) → length exits ≤ length core.exits + 1 → Left setup core (record core { exits = exits }) task
+  exits_left exits g = quiet_left setup core (record core { exits = exits }) task (record { memory = refl; postings = refl; carried = refl; comms = omega arith; requests = λ other. omega arith; made = λ other. refl; tasks = refl; lists = refl; few = λ other. omega arith; arrivals = omega arith; visits = omega arith; exits = g })
+
+visit_few : (visits : List Visit) (construct task : ℕ) → length (with_visit visits construct task) ≤ length visits + 1
+visit_few visits construct task = omega (arith, length-append visits (record { construct = construct; task = task; meeting = next_visit visits construct task } ∷ []))
+
+exit_few : (exits : List Visit) (o : Option Visit) → length (with_exit exits o) ≤ length exits + 1
+exit_few exits None = omega arith
+exit_few exits (Some v) = omega (arith, length-append exits (v ∷ []))
 
 -- what a call of a task that is there comes to
 pub act_leaves : (setup : Setup) (core : Core) (task : ℕ) → task < length core.tasks → (c : Call) → Leaves setup core task (act setup core task c)
@@ -248,8 +279,8 @@ act_leaves setup core task there (call.Probe peer tag comm) = leave_group setup 
 act_leaves setup core task there (call.Iprobe peer tag comm) = leave_group setup core task comm _ (λ group. probe_leaves setup core task peer tag _ (view_of group) (λ status. same_leaves setup core task (Flag status)))
 act_leaves setup core task there (call.Arrive coll) = leave_group setup core task coll.comm _ (arrive_leaves setup core task coll)
 act_leaves setup core task there (call.Leave comm) = leave_leaves setup core task (old_group_of core.comms task comm)
-act_leaves setup core task there (call.HlsEnter construct) = site_leaves setup core task sharing.is_single construct _ (sharing.construct_of setup construct) (λ site. does_leave setup core (sharing.visiting core task construct) task (Entered (way_of site core.visits task)) (visits_left setup core task _))
+act_leaves setup core task there (call.HlsEnter construct) = site_leaves setup core task sharing.is_single construct _ (sharing.construct_of setup construct) (λ site. does_leave setup core (sharing.visiting core task construct) task (Entered (way_of site core.visits task)) (visits_left setup core task _ (visit_few core.visits construct task)))
 act_leaves setup core task there (call.HlsWait construct) = site_leaves setup core task sharing.is_waiting_single construct _ (sharing.construct_of setup construct) (λ site. goes_leaves setup core task (may_go site core.visits core.exits task))
-act_leaves setup core task there (call.HlsExit construct) = site_leaves setup core task sharing.is_single construct _ (sharing.construct_of setup construct) (λ site. does_leave setup core (record core { exits = with_exit core.exits (running_visit site core.visits core.exits task) }) task Done (exits_left setup core task _))
-act_leaves setup core task there (call.HlsBar construct) = site_leaves setup core task sharing.is_barrier construct _ (sharing.construct_of setup construct) (λ site. does_leave setup core (sharing.visiting core task construct) task Done (visits_left setup core task _))
+act_leaves setup core task there (call.HlsExit construct) = site_leaves setup core task sharing.is_single construct _ (sharing.construct_of setup construct) (λ site. does_leave setup core (record core { exits = with_exit core.exits (running_visit site core.visits core.exits task) }) task Done (exits_left setup core task _ (exit_few core.exits (running_visit site core.visits core.exits task))))
+act_leaves setup core task there (call.HlsBar construct) = site_leaves setup core task sharing.is_barrier construct _ (sharing.construct_of setup construct) (λ site. does_leave setup core (sharing.visiting core task construct) task Done (visits_left setup core task _ (visit_few core.visits construct task)))
 act_leaves setup core task there (call.HlsBarWait construct) = site_leaves setup core task sharing.is_barrier construct _ (sharing.construct_of setup construct) (λ site. goes_leaves setup core task (may_leave_bar site core.visits task))

@@ -8,7 +8,7 @@ use Rattle.mpc_values.specs.declared.owners.Owner.TheVariants.{Task}
 use Rattle.mpc_values.specs.declared.faults.Fault.{Fault}
 use Rattle.mpc_values.specs.declared.faults.Fault.TheVariants.{NotInit, BadComm, BadRank, BadTag, BadCount}
 use Rattle.memory_model.specs.declared.kinds.Span.{Span}
-use Rattle.memory_model.specs.Memory.{Memory, object_of}
+use Rattle.memory_model.specs.Memory.{Memory, IsOrdered, object_of}
 use Rattle.memory_model.specs.Marks.{Marks}
 use Rattle.memory_model.specs.Ranges.{with_words_at}
 use Rattle.mpi_args.specs.Arguments.{is_proc_null, is_peer, is_tag_argument}
@@ -35,8 +35,8 @@ use Rattle.run_model.specs.Outcomes.{Outcome, Does, requests_at, is_inside, stat
 use Rattle.run_model.specs.Posting.{post, asked, asked_in, asked_at, barred, memory_after, offered, partner_carried}
 use Rattle.run_model.specs.Separate.{OwnPlaces, MetReceive, LeavesOthers}
 use Rattle.run_model.proofs.Lists.{get_set_same, get_before, length_set}
-use Rattle.run_model.proofs.Places.{owner_apart, span_owner, words_apart, words_dead}
-use Rattle.run_model.proofs.Leaving.{Left, Leaves, does_leave, fails_leave, left_requests, requests_set}
+use Rattle.run_model.proofs.Places.{owner_apart, span_owner, words_apart, words_dead, words_ordered}
+use Rattle.run_model.proofs.Leaving.{Left, Leaves, does_leave, fails_leave, left_requests, requests_set, requests_few}
 
 -- the places of what is posted are of the copy that its own task touches
 unfoldable PostsOwn : Setup → ℕ → Bool → Asked → Type 0
@@ -164,6 +164,18 @@ module _ (setup : Setup) (core : Core) (task : ℕ) (p : Posting) (mine : Carrie
   memory_dead m true (Some c) t obj h = delivered_dead m mine c t obj h
   memory_dead m false (Some c) t obj h = delivered_dead m c mine t obj h
 
+  delivered_ordered : (m : Memory) (send recv : Carried) → IsOrdered m → IsOrdered (delivered m send recv)
+  delivered_ordered m send recv h = by (is_taken send recv)
+    where
+      by : (b : Bool) → IsOrdered (if b then with_words_at m recv.places send.words else m)
+      by true = words_ordered m recv.places send.words h
+      by false = h
+
+  memory_ordered : (m : Memory) (send : Bool) (other : Option Carried) → IsOrdered m → IsOrdered (memory_after m send mine other)
+  memory_ordered m send None h = h
+  memory_ordered m true (Some c) h = delivered_ordered m mine c h
+  memory_ordered m false (Some c) h = delivered_ordered m c mine h
+
   -- the receive that a send has met
   met_made : (number : ℕ) → p.send ≡ true → partner_of core.postings p ≡ Some number → (index : ℕ) × (made : Made) × (number ≡ suc index) × (slice_get core.postings index ≡ Some made) × (made.posting.send ≡ false)
   met_made number sends e = by (partners.partner_of-IsPartner core.postings p number e)
@@ -233,19 +245,28 @@ module _ (setup : Setup) (core : Core) (task : ℕ) (p : Posting) (mine : Carrie
           decide (inr h) = inl (stays h.1 (carried_of core.carried number) refl)
 
   -- the core after the posting, with its next request
-  posted_left : (met : Option ℕ) → partner_of core.postings p ≡ met → (more : List _) → Left setup core (with_requests (record core {
+  posted_left : (met : Option ℕ) → partner_of core.postings p ≡ met → (more : Request) → Left setup core (with_requests (record core {
     memory = memory_after core.memory p.send mine (partner_carried core.carried met);
     postings = with_posting core.postings p;
     carried = core.carried ++ mine ∷ [];
-  }) task (requests_of core task ++ more)) task
+  }) task (requests_of core task ++ more ∷ [])) task
   posted_left met partner more = record {
     keeps = record {
       postings = omega (arith, length-with_posting core.postings p);
       comms = omega arith;
-      requests = requests_set core.requests task (requests_of core task ++ more) (omega (arith, length-append (requests_of core task) more));
+      requests = requests_set core.requests task (requests_of core task ++ more ∷ []) (omega (arith, length-append (requests_of core task) (more ∷ [])));
       made = λ other. omega arith;
       names = λ other left number past. memory_dead core.memory p.send (partner_carried core.carried met) other (Dyn number) (left number past);
     };
+    few = record {
+      postings = omega (arith, length-with_posting core.postings p);
+      requests = requests_few core.requests task (requests_of core task ++ more ∷ []) (omega (arith, length-append (requests_of core task) (more ∷ [])));
+      made = λ other. omega arith;
+      arrivals = omega arith;
+      visits = omega arith;
+      exits = omega arith;
+    };
+    order = memory_ordered core.memory p.send (partner_carried core.carried met);
     tasks = refl;
     lists = length_set core.requests task _;
     own = own_more _ refl refl;
@@ -256,12 +277,12 @@ offered_leaves : (setup : Setup) (core : Core) (task : ℕ) (send : Bool) (a : A
 unfolding PostsOwn
 offered_leaves setup core task send (Refused fault) h = fails_leave setup core task fault
 offered_leaves setup core task send Nobody h =
-    does_leave setup core _ task _ (left_requests setup core task _ (omega (arith, length-append (requests_of core task) (nobody_request ∷ []))))
+    does_leave setup core _ task _ (left_requests setup core task _ (omega (arith, length-append (requests_of core task) (nobody_request ∷ []))) (omega (arith, length-append (requests_of core task) (nobody_request ∷ []))))
   where
     nobody_request : Request
     nobody_request = record { awaited = awaited.Nothing (if send then empty_status else null_status); send = send; places = None; active = true }
 offered_leaves setup core task send (Posts p mine) h =
-    does_leave setup core _ task _ (posted_left setup core task p mine h.0 h.2 (partner_of core.postings p) refl (record { awaited = awaited.Posting (length core.postings + 1); send = p.send; places = mine.places; active = true } ∷ []))
+    does_leave setup core _ task _ (posted_left setup core task p mine h.0 h.2 (partner_of core.postings p) refl (record { awaited = awaited.Posting (length core.postings + 1); send = p.send; places = mine.places; active = true }))
 
 pub post_leaves : (setup : Setup) (core : Core) (task : ℕ) (o : Offer) → Leaves setup core task (post setup core task o)
 unfolding post asked

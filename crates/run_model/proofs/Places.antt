@@ -14,10 +14,10 @@ use Rattle.tls_levels.specs.Owners.{owner_at}
 use Rattle.tls_levels.specs.Sharing.{level_of}
 use Rattle.memory_model.specs.declared.kinds.Span.{Span}
 use Rattle.std.specs.FinMap.Entries.{find}
-use Rattle.memory_model.specs.Memory.{Memory, Object, key_cmp, key_of, object_of, with_object}
+use Rattle.memory_model.specs.Memory.{Memory, Object, IsOrdered, key_cmp, key_of, object_of, with_object}
 use Rattle.memory_model.specs.Marks.{Places, is_some_place}
 use Rattle.memory_model.specs.Ranges.{Within, NoRange, range_in, span_in, span_of, overwritten, written_in, with_words_at}
-use Rattle.memory_model.proofs.Maps.{read_with_other}
+use Rattle.memory_model.proofs.Maps.{read_with_other, ordered_with}
 use Rattle.memory_model.proofs.Accesses.{owner_is}
 use Rattle.run_model.specs.Setup.{Setup}
 use Rattle.run_model.specs.Owners.{core_of, sharing, owner_of}
@@ -102,3 +102,16 @@ written_dead m span words owner obj (Some object) is none = by (nat_le (span.at 
 pub words_dead : (m : Memory) (places : Option Span) (words : List Word) (owner : Owner) (obj : Obj) → object_of m owner obj ≡ None → object_of (with_words_at m places words) owner obj ≡ None
 words_dead m None words owner obj none = none
 words_dead m (Some span) words owner obj none = written_dead m span words owner obj (object_of m span.owner span.obj) refl none
+
+written_ordered : (m : Memory) (span : Span) (words : List Word) (object : Option Object) → IsOrdered m → IsOrdered (written_in m span words object)
+written_ordered m span words None h = h
+written_ordered m span words (Some object) h = by (nat_le (span.at + length words) (length object.words))
+  where
+    by : (b : Bool) → IsOrdered (if b then with_object m span.owner span.obj (record { kind = object.kind; words = overwritten object.words span.at words }) else m)
+    by true = ordered_with m span.owner span.obj _ h
+    by false = h
+
+-- words written to places leave the keys in order
+pub words_ordered : (m : Memory) (places : Option Span) (words : List Word) → IsOrdered m → IsOrdered (with_words_at m places words)
+words_ordered m None words h = h
+words_ordered m (Some span) words h = written_ordered m span words (object_of m span.owner span.obj) h

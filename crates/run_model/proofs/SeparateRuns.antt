@@ -1,5 +1,5 @@
 -- In every run processes are separate, and numbers are never given again.
-use Rattle.std.proofs.Common.{◌≡◌, ◌<◌, ◌+◌, ◌==◌, ℕ, Bool, true, false, if◌then◌else◌, nat_le, List, [], ◌∷◌, ◌++◌, length, slice_get, Some, None, refl, ap, sym, ◌∙◌, subst, rules}
+use Rattle.std.proofs.Common.{◌≡◌, ◌<◌, ◌≤◌, ◌+◌, ◌==◌, ℕ, zero, suc, Bool, true, false, if◌then◌else◌, nat_le, List, [], ◌∷◌, ◌++◌, length, replicate, slice_get, Some, None, refl, ap, sym, ◌∙◌, subst, length-append, arith, rules}
 use Rattle.std.proofs.lemmas.Option.{slice_get_within}
 use Rattle.mpc_values.specs.declared.values.Obj.{Obj}
 use Rattle.mpc_values.specs.declared.values.Obj.TheVariants.{Glob, Dyn}
@@ -9,20 +9,20 @@ use Rattle.mpc_values.specs.declared.owners.StaticVar.{StaticVar}
 use Rattle.mpc_values.specs.declared.faults.Fault.TheVariants.{Calls}
 use Rattle.mpc_base.specs.declared.journals.Entry.{Entry}
 use Rattle.memory_model.specs.declared.kinds.Kind.TheVariants.{Static}
-use Rattle.memory_model.specs.Memory.{Memory, key_of, object_of, with_object}
+use Rattle.memory_model.specs.Memory.{Memory, IsOrdered, key_of, object_of, with_object}
 use Rattle.memory_model.specs.Names.{NamesAreLeft}
-use Rattle.memory_model.proofs.Maps.{read_with_other}
+use Rattle.memory_model.proofs.Maps.{read_with_other, ordered_with}
 use Rattle.tls_levels.specs.Images.{image_number}
 use Rattle.tls_levels.specs.Owners.{owner_level, owners_of}
 use Rattle.run_model.specs.Setup.{Setup, tasks_of}
 use Rattle.run_model.specs.World.{Core, World}
 use Rattle.run_model.specs.Start.{with_copies, with_copies_of, first_memory, first_task, first_course}
-use Rattle.run_model.specs.Outcomes.{Outcome, Does, Fails, Waits, state_of}
+use Rattle.run_model.specs.Outcomes.{Outcome, Does, Fails, Waits, state_at, state_of, requests_at}
 use Rattle.run_model.specs.Act.{act}
 use Rattle.run_model.specs.Steps.{tried, course_of, core_after}
 use Rattle.run_model.specs.Run.{Ran, run, at_start}
 use Rattle.run_model.specs.Stepping.{IsStep}
-use Rattle.run_model.specs.Separate.{OwnPlaces}
+use Rattle.run_model.specs.Separate.{OwnPlaces, GivesFew, Numbered}
 use Rattle.run_model.proofs.Lists.{length_set}
 use Rattle.run_model.proofs.Steps.{step_is, after_is}
 use Rattle.run_model.proofs.Answers.{length_replicate, courses_are}
@@ -37,6 +37,8 @@ pub record Separate (setup : Setup) (r : Ran) : Type 0 where
   pub lists : length r.world.core.requests ≡ tasks_of setup
   pub courses : length r.world.log.courses ≡ tasks_of setup
   pub own : OwnPlaces setup r.world.core
+  pub order : IsOrdered r.world.core.memory
+  pub few : Numbered r.world.core (length r.entries)
   pub names : (task : ℕ) → NamesAreLeft task (state_of r.world.core task).made r.world.core.memory
 
 core_left : (setup : Setup) (core : Core) (task : ℕ) (o : Outcome) → Leaves setup core task o → Left setup core (core_after core o) task
@@ -76,12 +78,56 @@ all_copies_dead : (variables : List StaticVar) (owners : List Owner) (task made 
 all_copies_dead variables [] task made = refl
 all_copies_dead variables (owner ∷ more) task made = copies_dead owner 0 variables (with_copies_of variables more) task made (all_copies_dead variables more task made)
 
+copies_ordered : (owner : Owner) (number : ℕ) (variables : List StaticVar) (m : Memory) → IsOrdered m → IsOrdered (with_copies owner number variables m)
+copies_ordered owner number [] m h = h
+copies_ordered owner number (variable ∷ more) m h = by (image_number variable.level == image_number (owner_level owner)) (copies_ordered owner (number + 1) more m h)
+  where
+    by : (b : Bool) → IsOrdered (with_copies owner (number + 1) more m)
+        → IsOrdered (if b then with_object (with_copies owner (number + 1) more m) owner (Glob number) (record { kind = Static; words = variable.first }) else with_copies owner (number + 1) more m)
+    by true rest = ordered_with (with_copies owner (number + 1) more m) owner (Glob number) _ rest
+    by false rest = rest
+
+all_ordered : (variables : List StaticVar) (owners : List Owner) → IsOrdered (with_copies_of variables owners)
+all_ordered variables [] = tt
+all_ordered variables (owner ∷ more) = copies_ordered owner 0 variables (with_copies_of variables more) (all_ordered variables more)
+
+none_asked : (count task : ℕ) → length (requests_at (slice_get (replicate count []) task)) ≡ 0
+none_asked zero task = refl
+none_asked (suc count) zero = refl
+none_asked (suc count) (suc task) = none_asked count task
+
+none_made : (count task : ℕ) → (state_at (slice_get (replicate count first_task) task)).made ≡ 0
+none_made zero task = refl
+none_made (suc count) zero = refl
+none_made (suc count) (suc task) = none_made count task
+
+more_numbers : (core after : Core) (entries : List Entry) (entry : Entry) → Numbered core (length entries) → GivesFew core after → Numbered after (length (entries ++ entry ∷ []))
+more_numbers core after entries entry h g =
+    let longer : length (entries ++ entry ∷ []) ≡ length entries + 1 = length-append entries (entry ∷ []) in
+    record {
+      postings = omega (arith, longer, h.postings, g.postings);
+      requests = λ task. omega (arith, longer, h.requests task, g.requests task);
+      made = λ task. omega (arith, longer, h.made task, g.made task);
+      arrivals = omega (arith, longer, h.arrivals, g.arrivals);
+      visits = omega (arith, longer, h.visits, g.visits);
+      exits = omega (arith, longer, h.exits, g.exits);
+    }
+
 separate_start : (setup : Setup) → Separate setup (at_start setup)
 unfolding first_memory
 separate_start setup = record {
   tasks = length_replicate (tasks_of setup) first_task;
   lists = length_replicate (tasks_of setup) [];
   courses = length_replicate (tasks_of setup) first_course;
+  order = all_ordered setup.program.variables (owners_of setup.machine setup.cores);
+  few = record {
+    postings = omega arith;
+    requests = λ task. subst (λ n. n ≤ 0) (sym (none_asked (tasks_of setup) task)) (omega arith);
+    made = λ task. subst (λ n. n ≤ 0) (sym (none_made (tasks_of setup) task)) (omega arith);
+    arrivals = omega arith;
+    visits = omega arith;
+    exits = omega arith;
+  };
   own = record { even = refl; own = λ index made carried span at has named. nothing index made at };
   names = λ task number past. all_copies_dead setup.program.variables (owners_of setup.machine setup.cores) task number;
 }
@@ -96,6 +142,8 @@ separate_step setup r task entry after h s =
       tasks = left.tasks ∙ h.tasks;
       lists = left.lists ∙ h.lists;
       courses = ap length (sym (courses_are s)) ∙ length_set r.world.log.courses task _ ∙ h.courses;
+      order = left.order h.order;
+      few = more_numbers r.world.core after.core r.entries entry h.few left.few;
       own = left.own h.own;
       names = λ other. left.keeps.names other (h.names other);
     }

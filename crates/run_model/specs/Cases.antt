@@ -67,6 +67,7 @@ met =
     ∷ asks 1 (call.Load (at 1 0)) 9 (gives (int 7))
     ∷ []
 
+-- what these runs come to
 pub record TellingRuns : Type 0 where
   pub rank_first : Goes two bad_rank
   pub count_before_range : Goes two bad_count

@@ -32,6 +32,7 @@ pub record Line : Type 0 where
   pub line : ℕ
   pub out : Option Out
 
+-- such a line
 abbrev pub asks : ℕ → Call → ℕ → Option Out → Line
 asks task call line out = record { task = task; call = call; line = line; out = out }
 
@@ -40,6 +41,7 @@ abbrev pub out_of_step : Step → Option Out
 out_of_step Stays = None
 out_of_step (Makes entry world) = Some entry.out
 
+-- the step of a line's visit
 abbrev pub step_of : Setup → World → Line → Step
 step_of setup w l = go_with setup w l.task (Asks l.call l.line)
 
@@ -48,6 +50,7 @@ abbrev pub outs_from : Setup → World → List Line → List (Option Out)
 outs_from setup w [] = []
 outs_from setup w (l ∷ more) = out_of_step (step_of setup w l) ∷ outs_from setup (world_after w (step_of setup w l)) more
 
+-- the world after the visits of these lines, from a world on
 abbrev pub world_from : Setup → World → List Line → World
 world_from setup w [] = w
 world_from setup w (l ∷ more) = world_from setup (world_after w (step_of setup w l)) more

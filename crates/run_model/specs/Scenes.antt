@@ -1,4 +1,4 @@
--- Setups, calls and answers of worked cases, by short names, for worked cases.
+-- Setups, calls and answers by short names, for worked cases.
 use Rattle.std.specs.Prelude.{ℕ, ℤ, pos, negsuc, false, List, [], length, Option, None, Some}
 use Rattle.std.specs.List.{range_with_len}
 use Rattle.mpc_values.specs.declared.values.Word.{Word}

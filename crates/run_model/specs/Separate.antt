@@ -42,10 +42,28 @@ pub record Keeps (core after : Core) : Type 0 where
   pub made : (task : ℕ) → (state_of core task).made ≤ (state_of after task).made
   pub names : (task : ℕ) → NamesAreLeft task (state_of core task).made core.memory → NamesAreLeft task (state_of after task).made after.memory
 
+-- One call gives at most one number of each kind.
+pub record GivesFew (core after : Core) : Type 0 where
+  pub postings : length after.postings ≤ length core.postings + 1
+  pub requests : (task : ℕ) → length (requests_of after task) ≤ length (requests_of core task) + 1
+  pub made : (task : ℕ) → (state_of after task).made ≤ (state_of core task).made + 1
+  pub arrivals : length after.arrivals ≤ length core.arrivals + 1
+  pub visits : length after.visits ≤ length core.visits + 1
+  pub exits : length after.exits ≤ length core.exits + 1
+
 -- Another task's objects are as they were, or the step has met a receive of that task.
 abbrev pub LeavesOthers : Core → Core → ℕ → Type 0
 LeavesOthers core after task = (other : ℕ) (obj : Obj) → other ≢ task
     → (object_of after.memory (Task other) obj ≡ object_of core.memory (Task other) obj) ⊎ MetReceive core after task other
+
+-- So many entries have given at most as many numbers of each kind.
+pub record Numbered (core : Core) (entries : ℕ) : Type 0 where
+  pub postings : length core.postings ≤ entries
+  pub requests : (task : ℕ) → length (requests_of core task) ≤ entries
+  pub made : (task : ℕ) → (state_of core task).made ≤ entries
+  pub arrivals : length core.arrivals ≤ entries
+  pub visits : length core.visits ≤ entries
+  pub exits : length core.exits ≤ entries
 
 -- The request that a posting gets is the task's next one, and the posting's number the next one, or 0, where nothing was
 -- posted. The next ones after it are greater.

@@ -1,5 +1,5 @@
 //! Laws of runs, as contracts of functions that do nothing.
-ghost use Rattle.std.specs.Prelude.{◌≡◌, ◌≢◌, ℕ, true, List, [], ◌∷◌, ◌++◌, slice_get, Some};
+ghost use Rattle.std.specs.Prelude.{◌≡◌, ◌≢◌, ℕ, true, List, [], ◌∷◌, ◌++◌, length, slice_get, Some};
 ghost use Rattle.mpc_values.specs.declared.values.Obj.{Obj};
 ghost use Rattle.mpc_values.specs.declared.owners.Owner.TheVariants.{Task};
 ghost use Rattle.mpc_values.specs.declared.answers.Answer.{Answer};
@@ -10,6 +10,7 @@ ghost use Rattle.mpc_base.specs.declared.journals.End.TheVariants as end;
 ghost use Rattle.c_tree.specs.Asking.{Misfit, fits};
 ghost use Rattle.c_tree.specs.Next.{next_of};
 ghost use Rattle.run_model.specs.declared.progress.Course.{Course};
+ghost use Rattle.memory_model.specs.Memory.{IsOrdered};
 ghost use Rattle.memory_model.specs.Names.{NamesAreLeft};
 ghost use Rattle.run_model.specs.Setup.{Setup};
 ghost use Rattle.run_model.specs.Owners.{owner_of};
@@ -22,7 +23,7 @@ ghost use Rattle.run_model.specs.Run.{run, ran_step, at_start, order_of, world_o
 ghost use Rattle.run_model.specs.Orderly.{Once, Unovertaken};
 ghost use Rattle.run_model.specs.Cases.{TellingRuns};
 ghost use Rattle.run_model.specs.Fitting.{IsKnown, AsksKnown};
-ghost use Rattle.run_model.specs.Separate.{OwnPlaces, Keeps, LeavesOthers, NextNumbers};
+ghost use Rattle.run_model.specs.Separate.{OwnPlaces, Keeps, LeavesOthers, NextNumbers, Numbered};
 ghost use Rattle.run_model.specs.Stepping.{IsStep, Bounded, answers_told};
 
 /// A run begins at the start of its setup, and with one task more it goes on by one step of that task.
@@ -94,6 +95,13 @@ pub fn numbers_are_never_given_again()
     ensures kept { (setup : Setup) (order : List ℕ) (task : ℕ) (entry : Entry) (after : World) → go setup (run setup order).world task ≡ Makes entry after → Keeps (run setup order).world.core after.core }
     ensures posted { (setup : Setup) (order : List ℕ) (task : ℕ) (entry : Entry) (after : World) (req post met words : ℕ) → go setup (run setup order).world task ≡ Makes entry after → entry.out ≡ Did (Posted req post met words) → NextNumbers (run setup order).world.core after.core task req post }
     ensures names { (setup : Setup) (order : List ℕ) (task : ℕ) → NamesAreLeft task (state_of (run setup order).world.core task).made (run setup order).world.core.memory }
+{}
+
+/// A run has given at most as many numbers of each kind as it has entries, and its memories are in the order of their keys,
+/// so that two which read alike are equal.
+pub fn numbers_are_bounded_by_entries()
+    ensures numbered { (setup : Setup) (order : List ℕ) → Numbered (run setup order).world.core (length (run setup order).entries) }
+    ensures ordered { (setup : Setup) (order : List ℕ) → IsOrdered (run setup order).world.core.memory }
 {}
 
 /// A few runs, computed: the order of a posting's faults, the marks of an eager send, a run that is stuck and not before,
