@@ -1,5 +1,5 @@
 //! Laws of runs, as contracts of functions that do nothing.
-ghost use Rattle.std.specs.Prelude.{◌≡◌, ◌≢◌, ℕ, true, List, [], ◌∷◌, ◌++◌, length, slice_get, Some};
+ghost use Rattle.std.specs.Prelude.{◌≡◌, ◌≢◌, ◌≤◌, ◌+◌, ◌*◌, ℕ, true, List, [], ◌∷◌, ◌++◌, length, slice_get, Some};
 ghost use Rattle.mpc_values.specs.declared.values.Obj.{Obj};
 ghost use Rattle.mpc_values.specs.declared.owners.Owner.TheVariants.{Task};
 ghost use Rattle.mpc_values.specs.declared.answers.Answer.{Answer};
@@ -12,7 +12,7 @@ ghost use Rattle.c_tree.specs.Next.{next_of};
 ghost use Rattle.run_model.specs.declared.progress.Course.{Course};
 ghost use Rattle.memory_model.specs.Memory.{IsOrdered};
 ghost use Rattle.memory_model.specs.Names.{NamesAreLeft};
-ghost use Rattle.run_model.specs.Setup.{Setup};
+ghost use Rattle.run_model.specs.Setup.{Setup, tasks_of};
 ghost use Rattle.run_model.specs.Owners.{owner_of};
 ghost use Rattle.run_model.specs.Outcomes.{state_of};
 ghost use Rattle.run_model.specs.World.{World};
@@ -97,10 +97,12 @@ pub fn numbers_are_never_given_again()
     ensures names { (setup : Setup) (order : List ℕ) (task : ℕ) → NamesAreLeft task (state_of (run setup order).world.core task).made (run setup order).world.core.memory }
 {}
 
-/// A run has given at most as many numbers of each kind as it has entries, and its memories are in the order of their keys,
+/// A run has given at most as many numbers of each kind as it has entries, of communicators at most that times the number
+/// of tasks and one; and its memories are in the order of their keys,
 /// so that two which read alike are equal.
 pub fn numbers_are_bounded_by_entries()
     ensures numbered { (setup : Setup) (order : List ℕ) → Numbered (run setup order).world.core (length (run setup order).entries) }
+    ensures communicators { (setup : Setup) → 1 ≤ tasks_of setup → (order : List ℕ) → length (run setup order).world.core.comms ≤ length (run setup order).entries * tasks_of setup + 1 }
     ensures ordered { (setup : Setup) (order : List ℕ) → IsOrdered (run setup order).world.core.memory }
 {}
 
