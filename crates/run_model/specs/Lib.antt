@@ -23,6 +23,7 @@ pub mod Maps
 pub mod Records
 pub mod Stepping
 pub mod Fitting
+pub mod Valid
 pub mod Separate
 pub mod Played
 pub mod Scenes
