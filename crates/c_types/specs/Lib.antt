@@ -22,3 +22,4 @@ pub mod Typing
 pub mod Answers
 pub mod Mains
 pub mod Sizes
+pub mod Laws

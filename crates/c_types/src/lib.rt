@@ -33,6 +33,6 @@ mod statements;
 mod units;
 mod variables;
 
-pub use program_laws::{typed_programs_are_sized, typed_programs_have_a_main};
+pub use program_laws::{typed_programs_are_sized, typed_programs_have_a_main, typing_laws};
 pub use refusals::TypeRefusal;
 pub use units::check;

@@ -1,6 +1,12 @@
 //! Laws of the definitions, as contracts of functions that do nothing.
+ghost use Rattle.c_types.specs.Laws.{TypingLaws};
 ghost use Rattle.c_types.specs.Mains.{TypedHasMain};
 ghost use Rattle.c_types.specs.Sizes.{TypedIsSized};
+
+/// A tree has at most one typed program, or is refused in one way, and never both.
+pub fn typing_laws()
+    ensures { TypingLaws }
+{}
 
 /// Main is one of the functions of a typed program.
 #[tactic(auto, using(crate::proofs::Mains::typed_has_main))]

@@ -4,6 +4,7 @@ use Rattle.mpc_base.specs.Causes.{Rose}
 use Rattle.mpc_base.specs.Told.{Store, content_of, Took, TookPrefix}
 use Rattle.c_lex.specs.Laws.{LexingLaws}
 use Rattle.c_parse.specs.Laws.{ParsingLaws}
+use Rattle.c_types.specs.Laws.{TypingLaws}
 use Rattle.c_tree.specs.ProgramOf.{program_of}
 use Rattle.serial_model.specs.declared.records.RunRecord.{RunRecord}
 use Rattle.mpc_top.specs.declared.command.Mode.{Mode}
@@ -215,36 +216,36 @@ module _ (words : List (List ℕ)) (told : Option Store) (f f' status : ℕ) (ke
       likely (Some store) n h = (program_of run.setup.program, h, is.0.plain)
 
   -- a source that is refused for a reason ends with status 5 and that reason's line
-  pub refuses_of : LexingLaws → ParsingLaws → Answered words told f f' status kept t t' w w' → (mode : Mode) (refusal : SourceRefusal) → ToldSource words mode told (Refuses mode refusal) → (Rose f f' → ⊥) → status ≢ 10
+  pub refuses_of : LexingLaws → ParsingLaws → TypingLaws → Answered words told f f' status kept t t' w w' → (mode : Mode) (refusal : SourceRefusal) → ToldSource words mode told (Refuses mode refusal) → (Rose f f' → ⊥) → status ≢ 10
       → (status ≡ 5) × WroteLine (refusal_line refusal) t t' w w'
-  refuses_of lexing parsing (inl r) mode refusal source calm not10 = by_refusal r.refusal r.holds r.status_is r.line
+  refuses_of lexing parsing typing (inl r) mode refusal source calm not10 = by_refusal r.refusal r.holds r.status_is r.line
     where
       by_refusal : (q : Refusal) → Holds q words told f f' → status ≡ status_for q → WroteLine (line_for q) t t' w w' → (status ≡ 5) × WroteLine (refusal_line refusal) t t' w w'
       by_refusal Usage holds is line = absurd (holds mode source.name source.names)
       by_refusal ReadFault holds is line = absurd (calm holds.2)
       by_refusal (Source s) holds is line =
           let both = same_file words told holds.0 mode (λ m. Refuses m s) (Refuses mode refusal) holds.1 source in
-          (is, subst (λ q. WroteLine (refusal_line q) t t' w w') (same_reason lexing parsing mode s refusal both.0 both.1 both.2) line)
+          (is, subst (λ q. WroteLine (refusal_line q) t t' w w') (same_reason lexing parsing typing mode s refusal both.0 both.1 both.2) line)
       by_refusal Memory holds is line = absurd (not10 is)
-  refuses_of lexing parsing (inr (inl s)) mode refusal source calm not10 =
+  refuses_of lexing parsing typing (inr (inl s)) mode refusal source calm not10 =
       let both = same_file words told s.mode mode IsGood (Refuses mode refusal) (good_of s.mode kept s.text s.is) source in
-      absurd (good_content lexing parsing mode refusal both.0 both.2 both.1)
-  refuses_of lexing parsing (inr (inr s)) mode refusal source calm not10 = absurd (not10 s.3.status_is)
+      absurd (good_content lexing parsing typing mode refusal both.0 both.2 both.1)
+  refuses_of lexing parsing typing (inr (inr s)) mode refusal source calm not10 = absurd (not10 s.3.status_is)
 
   shown_calm : (text : List ℕ) → Showed (made_status kept) status text t t' w w' → (Rose w w' → ⊥) → status ≡ made_status kept
   shown_calm text (inl whole) calm = whole.0
   shown_calm text (inr part) calm = absurd (calm part.2)
 
   -- a source that is good for its mode, read and written without a fault, ends with the status of what was made
-  pub complete_of : LexingLaws → ParsingLaws → Answered words told f f' status kept t t' w w' → (mode : Mode) → ToldSource words mode told (IsGood mode) → (Rose f f' → ⊥) → (Rose w w' → ⊥) → status ≢ 10 → status ≡ made_status kept
-  complete_of lexing parsing (inl r) mode source calm dry not10 = absurd (by_refusal r.refusal r.holds r.status_is)
+  pub complete_of : LexingLaws → ParsingLaws → TypingLaws → Answered words told f f' status kept t t' w w' → (mode : Mode) → ToldSource words mode told (IsGood mode) → (Rose f f' → ⊥) → (Rose w w' → ⊥) → status ≢ 10 → status ≡ made_status kept
+  complete_of lexing parsing typing (inl r) mode source calm dry not10 = absurd (by_refusal r.refusal r.holds r.status_is)
     where
       by_refusal : (q : Refusal) → Holds q words told f f' → status ≡ status_for q → ⊥
       by_refusal Usage holds is = holds mode source.name source.names
       by_refusal ReadFault holds is = calm holds.2
       by_refusal (Source s) holds is =
           let both = same_file words told holds.0 mode (λ m. Refuses m s) (IsGood mode) holds.1 source in
-          good_content lexing parsing mode s both.0 both.1 both.2
+          good_content lexing parsing typing mode s both.0 both.1 both.2
       by_refusal Memory holds is = not10 is
-  complete_of lexing parsing (inr (inl s)) mode source calm dry not10 = shown_calm s.text s.showed dry
-  complete_of lexing parsing (inr (inr s)) mode source calm dry not10 = absurd (not10 s.3.status_is)
+  complete_of lexing parsing typing (inr (inl s)) mode source calm dry not10 = shown_calm s.text s.showed dry
+  complete_of lexing parsing typing (inr (inr s)) mode source calm dry not10 = absurd (not10 s.3.status_is)

@@ -3,6 +3,7 @@ use Rattle.std.proofs.Common.{◌≡◌, ℕ, List, Option, Some, None, refl, sy
 use Rattle.mpc_base.specs.Told.{Store, content_of}
 use Rattle.c_lex.specs.Laws.{LexingLaws}
 use Rattle.c_parse.specs.Laws.{ParsingLaws}
+use Rattle.c_types.specs.Laws.{TypingLaws}
 use Rattle.c_tree.specs.Programs.{Program}
 use Rattle.c_tree.specs.ProgramOf.{program_of}
 use Rattle.journal.specs.Report.{report_of}
@@ -19,16 +20,16 @@ use Rattle.mpc_top.proofs.Reasons.{same_program}
 use Rattle.mpc_top.proofs.Answering.{modes_same, names_same}
 
 -- a file has one typed program
-file_program : LexingLaws → ParsingLaws → (file : Option (List ℕ)) (p q : Program) → IsAccepted p file → IsAccepted q file → p ≡ q
-file_program lexing parsing None p q first second = absurd first
-file_program lexing parsing (Some src) p q first second = same_program lexing parsing src p q first second
+file_program : LexingLaws → ParsingLaws → TypingLaws → (file : Option (List ℕ)) (p q : Program) → IsAccepted p file → IsAccepted q file → p ≡ q
+file_program lexing parsing typing None p q first second = absurd first
+file_program lexing parsing typing (Some src) p q first second = same_program lexing parsing typing src p q first second
 
-module _ (lexing : LexingLaws) (parsing : ParsingLaws) (words : List (List ℕ)) (store : Store) where
+module _ (lexing : LexingLaws) (parsing : ParsingLaws) (typing : TypingLaws) (words : List (List ℕ)) (store : Store) where
   -- the sources that the words name have one typed program
   source_program : (m : Mode) (p q : Program) → OfSource words m (Some store) (IsAccepted p) → OfSource words m (Some store) (IsAccepted q) → p ≡ q
   source_program m p q first second =
       let name = names_same words m m first.name second.name first.names second.names in
-      file_program lexing parsing (content_of store second.name) p q (subst (λ (n : List ℕ). IsAccepted p (content_of store n)) name first.file) second.file
+      file_program lexing parsing typing (content_of store second.name) p q (subst (λ (n : List ℕ). IsAccepted p (content_of store n)) name first.file) second.file
 
   texts_same : (m : Mode) (kept kept' : Option RunRecord) (text text' : List ℕ) → Text m words (Some store) kept text → Text m words (Some store) kept' text' → SameOutcome text text' kept kept'
   texts_same Check None None text text' first second = record {
@@ -54,9 +55,9 @@ text_name words store Check (Some run) text is = absurd is
 text_name words store Serial None text is = absurd is
 text_name words store Serial (Some run) text is = (is.1.name, is.1.names)
 
-pub one_outcome : LexingLaws → ParsingLaws → OneOutcome
-one_outcome lexing parsing words store m n kept kept' text text' first second =
+pub one_outcome : LexingLaws → ParsingLaws → TypingLaws → OneOutcome
+one_outcome lexing parsing typing words store m n kept kept' text text' first second =
     let a = text_name words store m kept text first in
     let b = text_name words store n kept' text' second in
     let mode = modes_same words n m b.0 a.0 b.1 a.1 in
-    texts_same lexing parsing words store m kept kept' text text' first (subst (λ (k : Mode). Text k words (Some store) kept' text') mode second)
+    texts_same lexing parsing typing words store m kept kept' text text' first (subst (λ (k : Mode). Text k words (Some store) kept' text') mode second)

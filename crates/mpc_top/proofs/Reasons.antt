@@ -12,7 +12,7 @@ use Rattle.c_tree.specs.Syntax.{Tree}
 use Rattle.c_tree.specs.Programs.{Program}
 use Rattle.c_types.specs.declared.refusals.TypeRefusal.{TypeRefusal}
 use Rattle.c_types.specs.Typing as typing
-use Rattle.c_types.proofs.Laws as type_laws
+use Rattle.c_types.specs.Laws.{TypingLaws}
 use Rattle.c_compile.specs.Plain.{is_plain}
 use Rattle.mpc_top.specs.declared.command.Mode.{Mode}
 use Rattle.mpc_top.specs.declared.command.Mode.TheVariants.{Check, Serial}
@@ -24,7 +24,7 @@ use Rattle.mpc_top.specs.Answers.{IsBuilt, IsGood}
 long_or_short : (src : List ℕ) → MAX_SOURCE_BYTES < length src → length src ≤ MAX_SOURCE_BYTES → ⊥
 long_or_short src long short = omega (arith, long, short)
 
-module _ (lexing : LexingLaws) (parsing : ParsingLaws) where
+module _ (lexing : LexingLaws) (parsing : ParsingLaws) (typing_laws : TypingLaws) where
   -- a source with tokens is not refused by the lexical rules
   lexed_once : (src : List ℕ) (at : LexRefusal) (tokens : List Token) → lexed.RefusedAt src at → HasTokens src tokens → ⊥
   lexed_once src at tokens refused has = lexing.never_both src tokens at has.lexed refused
@@ -45,7 +45,7 @@ module _ (lexing : LexingLaws) (parsing : ParsingLaws) where
   -- an accepted source breaks no rule
   typed_once : (src : List ℕ) (t : Tree) (broken : TypeRefusal) (program : Program) → HasTree src t → typing.Refused t broken → Accepted src program → ⊥
   typed_once src t broken program has refused accepted =
-      type_laws.never_both t program broken (subst (λ u. typing.Typed u program) (tree_same src accepted.tree t accepted.has has) accepted.typed) refused
+      typing_laws.never_both t program broken (subst (λ u. typing.Typed u program) (tree_same src accepted.tree t accepted.has has) accepted.typed) refused
 
   -- a source that is not built is accepted
   built_of : (m : Mode) (src : List ℕ) → RefusesContent m refusal.NotBuilt src → (program : Program) × Accepted src program
@@ -58,7 +58,7 @@ module _ (lexing : LexingLaws) (parsing : ParsingLaws) where
 
   same_rule : (src : List ℕ) (t u : Tree) (r s : TypeRefusal) → HasTree src t → typing.Refused t r → HasTree src u → typing.Refused u s → r ≡ s
   same_rule src t u r s has first has' second =
-      type_laws.same_refusal t r s first (subst (λ v. typing.Refused v s) (tree_same src u t has' has) second)
+      typing_laws.same_refusal t r s first (subst (λ v. typing.Refused v s) (tree_same src u t has' has) second)
 
   content_same : (m : Mode) (r s : SourceRefusal) (src : List ℕ) → RefusesContent m r src → RefusesContent m s src → r ≡ s
   content_same m refusal.Missing s src h g = absurd h
@@ -110,7 +110,7 @@ module _ (lexing : LexingLaws) (parsing : ParsingLaws) where
   -- a source has one typed program
   pub same_program : (src : List ℕ) (p q : Program) → Accepted src p → Accepted src q → p ≡ q
   same_program src p q first second =
-      type_laws.same_program first.tree p q first.typed (subst (λ t. typing.Typed t q) (tree_same src second.tree first.tree second.has first.has) second.typed)
+      typing_laws.same_program first.tree p q first.typed (subst (λ t. typing.Typed t q) (tree_same src second.tree first.tree second.has first.has) second.typed)
 
   true_or_false : (b : Bool) → b ≡ true → b ≡ false → ⊥
   true_or_false b is fails = cc

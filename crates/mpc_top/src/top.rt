@@ -23,6 +23,7 @@ use crate::statuses::status_of;
 use c_lex::lexing_laws;
 use c_parse::parsing_laws;
 use c_tree::program::Program;
+use c_types::{typed_programs_have_a_main, typing_laws};
 use journal::report;
 use mpc_base::limits::MAX_SOURCE_BYTES;
 use mpc_base::{Files, Memory, ReadAnswer, Sink};
@@ -117,6 +118,7 @@ fn make(alloc: Global, mode: Mode, src: &[u8]) -> Result<Result<Made, SourceRefu
             if !is_plain(&program) {
                 return Ok(Err(SourceRefusal::NotBuilt));
             }
+            typed_programs_have_a_main();
             Ok(Ok(serial_text(alloc, program)?))
         }
     }
@@ -237,5 +239,6 @@ pub fn mpc_serial<F: Files, K: Sink>(
 {
     lexing_laws();
     parsing_laws();
+    typing_laws();
     answer(alloc, words, files, out)
 }

@@ -17,10 +17,10 @@ pub returns-clause-usage : goal.returns-clause-usage
 returns-clause-usage g c = usage_of _ _ _ _ _ _ _ _ _ _ c.answer.ensures.answered
 
 pub returns-clause-refuses : goal.returns-clause-refuses
-returns-clause-refuses g c = refuses_of _ _ _ _ _ _ _ _ _ _ c.lexing_laws.ensures c.parsing_laws.ensures c.answer.ensures.answered
+returns-clause-refuses g c = refuses_of _ _ _ _ _ _ _ _ _ _ c.lexing_laws.ensures c.parsing_laws.ensures c.typing_laws.ensures c.answer.ensures.answered
 
 pub returns-clause-complete : goal.returns-clause-complete
-returns-clause-complete g c = complete_of _ _ _ _ _ _ _ _ _ _ c.lexing_laws.ensures c.parsing_laws.ensures c.answer.ensures.answered
+returns-clause-complete g c = complete_of _ _ _ _ _ _ _ _ _ _ c.lexing_laws.ensures c.parsing_laws.ensures c.typing_laws.ensures c.answer.ensures.answered
 
 pub returns-clause-kept : goal.returns-clause-kept
 returns-clause-kept g c = kept_of _ _ _ _ _ _ _ _ _ _ c.answer.ensures.answered
