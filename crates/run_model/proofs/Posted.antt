@@ -1,7 +1,6 @@
 -- What a step posts: nothing, and the postings are as they were; or one posting, which has the next number and the first
 -- fitting partner.
-use Rattle.std.proofs.Common.{◌≡◌, ◌≢◌, ◌⊎◌, inl, inr, ◌+◌, ℕ, Bool, true, false, T, if◌then◌else◌, nat_le, length, Option, Some, None, refl, ap, sym, ◌∙◌, subst}
-use Rattle.mpc_values.specs.declared.answers.Answer.{Answer}
+use Rattle.std.proofs.Common.{◌≡◌, ◌⊎◌, inl, inr, ◌+◌, ℕ, Bool, true, false, T, if◌then◌else◌, nat_le, length, Option, Some, None, refl, ap, sym, ◌∙◌, subst}
 use Rattle.mpc_values.specs.declared.answers.Answer.TheVariants.{Done, Gives, Posted, Got, Flag, Any, Entered}
 use Rattle.mpc_values.specs.declared.answers.Way.{Way}
 use Rattle.mpc_values.specs.declared.calls.Call.{Call}
@@ -52,7 +51,7 @@ OutcomePosts core (Does answer after) = StepPosts core after (out.Did answer)
 OutcomePosts core (Fails fault) = Unit {0}
 OutcomePosts core Waits = Unit {0}
 
-none_told : (o : Out) → told_in o ≡ None → TellsNone o
+pub none_told : (o : Out) → told_in o ≡ None → TellsNone o
 unfolding TellsNone
 none_told o e t h = absurd (never (sym e ∙ h))
   where
@@ -82,10 +81,10 @@ enter_posts setup core task construct None way = inl (none_told (out.Did Done) r
 enter_posts setup core task construct (Some c) way =
     posts_if core (is_single c.kind) _ _ (inl (none_told (out.Did (Entered _)) refl, refl)) (inl (none_told (out.Did Done) refl, refl))
 
-some_told : (a b : Told) → Some a ≡ Some b → a ≡ b
+pub some_told : (a b : Told) → Some a ≡ Some b → a ≡ b
 some_told a b h = cc
 
-nobody_tells : (req : ℕ) → TellsNone (out.Did (Posted req 0 0 0))
+pub nobody_tells : (req : ℕ) → TellsNone (out.Did (Posted req 0 0 0))
 unfolding TellsNone
 nobody_tells req t h =
     let same : record { post = 0; met = 0; words = 0 } ≡ t = some_told _ t h in

@@ -102,3 +102,18 @@ run_keeps setup P begins keeps order = along (at_start setup) begins order
     along : (r : Ran) → P r → (order : List ℕ) → P (run_from setup r order)
     along r h [] = h
     along r h (task ∷ order) = along (ran_step r (go setup r.world task)) (stepped r task (go setup r.world task) h refl) order
+
+-- the same, where a step is one of a run of the setup
+pub runs_keep : (setup : Setup) (P : Ran → Type 0) → P (at_start setup)
+    → ((order : List ℕ) (task : ℕ) (entry : Entry) (after : World) → P (run setup order) → go setup (run setup order).world task ≡ Makes entry after → P (record { entries = (run setup order).entries ++ entry ∷ []; world = after }))
+    → (order : List ℕ) → P (run setup order)
+runs_keep setup P begins keeps order =
+    (run_keeps setup (λ r. (order' : List ℕ) × (run setup order' ≡ r) × P r) ([], run_from-none setup (at_start setup), begins) along order).2
+  where
+    along : (r : Ran) (task : ℕ) (entry : Entry) (after : World) → (order' : List ℕ) × (run setup order' ≡ r) × P r → go setup r.world task ≡ Makes entry after
+        → (order' : List ℕ) × (run setup order' ≡ record { entries = r.entries ++ entry ∷ []; world = after }) × P (record { entries = r.entries ++ entry ∷ []; world = after })
+    along r task entry after (order', is, h) went = (
+      order' ++ task ∷ [],
+      run_from-last setup (at_start setup) order' task ∙ ap (λ x. ran_step x (go setup x.world task)) is ∙ ap (ran_step r) went,
+      subst (λ (x : Ran). go setup x.world task ≡ Makes entry after → P x → P (record { entries = x.entries ++ entry ∷ []; world = after })) is (λ went' h'. keeps order' task entry after h' went') went h,
+    )

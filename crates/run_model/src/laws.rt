@@ -6,6 +6,7 @@ ghost use Rattle.mpc_values.specs.declared.answers.Answer.{Answer};
 ghost use Rattle.mpc_values.specs.declared.answers.Answer.TheVariants.{Posted};
 ghost use Rattle.mpc_base.specs.declared.journals.Out.TheVariants.{Did};
 ghost use Rattle.mpc_base.specs.declared.journals.Entry.{Entry};
+ghost use Rattle.mpc_base.specs.declared.journals.Journal.{Journal};
 ghost use Rattle.mpc_base.specs.declared.journals.End.TheVariants as end;
 ghost use Rattle.c_tree.specs.Asking.{Misfit, fits};
 ghost use Rattle.c_tree.specs.Next.{next_of};
@@ -19,8 +20,8 @@ ghost use Rattle.run_model.specs.World.{World};
 ghost use Rattle.run_model.specs.Steps.{Stays, Makes, answers_of};
 ghost use Rattle.run_model.specs.Go.{go, is_blocked};
 ghost use Rattle.run_model.specs.Ending.{ending};
-ghost use Rattle.run_model.specs.Run.{run, ran_step, at_start, order_of, world_of};
-ghost use Rattle.run_model.specs.Orderly.{Once, Unovertaken};
+ghost use Rattle.run_model.specs.Run.{run, ran_step, at_start, order_of, world_of, LegalRun};
+ghost use Rattle.run_model.specs.Orderly.{Once, Whole, Unovertaken, Orderly};
 ghost use Rattle.run_model.specs.Cases.{TellingRuns};
 ghost use Rattle.run_model.specs.Fitting.{IsKnown, AsksKnown};
 ghost use Rattle.run_model.specs.Separate.{OwnPlaces, Keeps, LeavesOthers, NextNumbers, Numbered};
@@ -87,6 +88,14 @@ pub fn processes_are_separate()
 pub fn messages_arrive_once_and_in_order()
     ensures once { (setup : Setup) (order : List ℕ) → Once (run setup order).entries }
     ensures in_order { (setup : Setup) (order : List ℕ) → Unovertaken setup (run setup order).entries }
+{}
+
+/// In every run each message arrives whole (MPI 3.1, sections 3.2.2 and 3.5): just after a match the receive's first places hold
+/// the words that the send's places held when it was posted, or no word is moved, where the datatypes differ or the message
+/// is longer. So each legal run is orderly.
+pub fn messages_arrive_whole()
+    ensures whole { (setup : Setup) (order : List ℕ) → Whole setup (run setup order).entries }
+    ensures orderly { (setup : Setup) (journal : Journal) → LegalRun setup journal → Orderly setup journal }
 {}
 
 /// The numbers of requests, postings, communicators and objects are never given again: nothing that has one is taken out,
