@@ -64,7 +64,7 @@ pub record Buffers : Type 0 where
   pub drop_under_a_receive : Goes one (begun ++ asks 0 (recv (made 1 0) 1 (pos 0) (pos 0)) 9 (posted 1 1 0 0) ∷ asks 0 (call.Drop (Dyn 1)) 9 (broke fault.PendingDrop) ∷ [])
   pub free_under_a_send : Goes one (begun ++ asks 0 (send (made 2 1) 1 (pos 0) 0) 9 (posted 1 1 0 0) ∷ asks 0 (call.Free (made 2 0)) 9 (broke fault.PendingDrop) ∷ [])
   pub free_under_a_receive : Goes one (begun ++ asks 0 (recv (made 2 0) 1 (pos 0) (pos 0)) 9 (posted 1 1 0 0) ∷ asks 0 (call.Free (made 2 0)) 9 (broke fault.PendingDrop) ∷ [])
-  -- a message of no words names a buffer that is dead, and has no fault; MPI_PROC_NULL is looked at after rank, tag and count
+  -- a message of no words may name a buffer that is dead; one of one word may not
   pub no_words : Goes one (
       begun
       ++ asks 0 (call.Free (made 2 0)) 9 done

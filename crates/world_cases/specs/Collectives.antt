@@ -1,4 +1,4 @@
--- Collective calls: what each rank gets, who waits, and what differs.
+-- Collective calls: what each rank gets, who waits, and which arguments are looked at.
 use Rattle.std.specs.Prelude.{◌≡◌, pos, negsuc, List, [], ◌∷◌}
 use Rattle.mpc_values.specs.declared.values.Word.TheVariants.{Undef, Null}
 use Rattle.mpc_values.specs.declared.calls.Call.TheVariants as call
@@ -69,15 +69,8 @@ pub record Collectives : Type 0 where
       ∷ asks 0 (call.Load (at 2 0)) 12 (gives (int 1)) ∷ asks 0 (call.Load (at 1 0)) 12 (gives (int 9)) ∷ asks 0 (call.Load (at 3 0)) 12 (gives (int 2))
       ∷ asks 1 (call.Load (at 2 0)) 12 (gives (int 3)) ∷ asks 1 (call.Load (at 1 0)) 12 (gives (int 1)) ∷ asks 1 (call.Load (at 3 0)) 12 (gives (int 2))
       ∷ [])
-  -- each rank names itself as the root
-  pub roots_differ : Goes two (
-      asks 0 call.Init 7 done ∷ asks 1 call.Init 7 done
-      ∷ asks 0 (call.Arrive (coll what.Bcast 0 1 0 (at 0 0) (at 0 0))) 9 done
-      ∷ asks 1 (call.Arrive (coll what.Bcast 1 1 0 (at 0 0) (at 0 0))) 9 (broke fault.CollMismatch)
-      ∷ [])
-  -- The two counts of Allgather differ in one call. In Gather another than the root's receive count is not looked at, not even
-  -- where it is negative, and nor is its receive buffer.
-  pub own_counts_differ : Goes two (asks 0 call.Init 7 done ∷ asks 0 (call.Arrive (coll what.Allgather 0 1 2 Null Null)) 9 (broke fault.CollMismatch) ∷ [])
+  -- in Gather another than the root's receive count is not looked at, not even where it is negative, and nor is its receive
+  -- buffer
   pub not_looked_at : Goes two (
       asks 1 call.Init 7 done
       ∷ asks 1 (call.Arrive (record (coll what.Gather 0 1 0 (at 0 0) Null) { other = negsuc 4 })) 9 done
@@ -97,15 +90,35 @@ pub record Collectives : Type 0 where
       ∷ asks 0 (call.Load (at 2 0)) 9 (gives (int 5))
       ∷ asks 1 (call.Load (at 2 0)) 9 (broke fault.Uninit)
       ∷ [])
-  -- nor is that of rank 0 in Exscan, and nor is that of the root in Bcast
+  -- nor is the result's range of rank 0 in Exscan, nor that of the root in Bcast, nor another's send buffer there
+  pub root_of_bcast : Goes two (
+      asks 0 call.Init 7 done
+      ∷ asks 1 call.Init 7 done
+      ∷ asks 0 (call.Arrive (coll what.Bcast 0 1 0 (at 4 1) Null)) 9 done
+      ∷ asks 1 (call.Arrive (coll what.Bcast 0 1 0 Null (at 2 0))) 9 done
+      ∷ asks 1 (call.Leave W) 9 done
+      ∷ asks 1 (call.Load (at 2 0)) 9 (gives (int 6))
+      ∷ asks 0 (call.Leave W) 9 done
+      ∷ asks 0 (call.Load (at 2 0)) 9 (broke fault.Uninit)
+      ∷ [])
   pub first_of_exscan : Goes two (
       asks 0 call.Init 7 done
       ∷ asks 1 call.Init 7 done
       ∷ asks 0 (call.Arrive (coll what.Exscan 0 1 0 (at 0 0) Null)) 9 done
       ∷ asks 1 (call.Arrive (coll what.Exscan 0 1 0 (at 0 0) Null)) 9 (broke fault.NullAccess)
       ∷ [])
-  -- in a fold an unset word is no contribution, in a gather it is; the contribution is looked at before the result
+  -- in a fold an unset word is no contribution, in a gather it is, and unset where it comes; the contribution is looked at
+  -- before the result
   pub unset_in_fold : Goes two (asks 0 call.Init 7 done ∷ asks 0 (call.Arrive (coll what.Allreduce 0 1 0 (at 2 0) Null)) 9 (broke fault.Uninit) ∷ [])
+  pub unset_in_gather : Goes two (
+      asks 0 call.Init 7 done
+      ∷ asks 1 call.Init 7 done
+      ∷ asks 1 (call.Arrive (coll what.Gather 0 1 0 (at 2 0) Null)) 9 done
+      ∷ asks 0 (call.Arrive (coll what.Gather 0 1 1 (at 0 0) (at 4 0))) 9 done
+      ∷ asks 0 (call.Leave W) 9 done
+      ∷ asks 0 (call.Load (at 4 0)) 9 (gives (int 1))
+      ∷ asks 0 (call.Load (at 4 1)) 9 (broke fault.Uninit)
+      ∷ [])
   pub result_is_last : Goes two (asks 0 call.Init 7 done ∷ asks 0 (call.Arrive (coll what.Allreduce 0 1 0 (at 0 0) (at 3 1))) 9 (broke fault.Bounds) ∷ [])
   pub goes : ending three (after three lines) ≡ end.Going
   pub comes : Goes three all_lines

@@ -22,3 +22,6 @@ pub mod Splits
 pub mod Meetings
 pub mod Instances
 pub mod Endings
+pub mod FaultOrders
+pub mod Arrivals
+pub mod Output

@@ -59,5 +59,6 @@ pub record Objects : Type 0 where
       ∷ [])
   pub abort_ends : Goes two aborted
   pub ends_aborted : ending two (after two aborted) ≡ end.Abort 0 (pos 9) 9
-  pub no_finalize : Goes two (asks 0 call.Init 7 done ∷ asks 0 call.Init 7 (broke fault.InitTwice) ∷ [])
-  pub no_finalize_at_end : Goes two (asks 0 call.Init 7 done ∷ asks 0 (call.Finish (pos 0)) 9 (broke fault.NoFinalize) ∷ [])
+  -- a second MPI_Init, and the end of main without MPI_Finalize
+  pub init_twice : Goes two (asks 0 call.Init 7 done ∷ asks 0 call.Init 7 (broke fault.InitTwice) ∷ [])
+  pub no_finalize : Goes two (asks 0 call.Init 7 done ∷ asks 0 (call.Finish (pos 0)) 9 (broke fault.NoFinalize) ∷ [])

@@ -1,4 +1,4 @@
--- The pending rule: what a store, a load, a receive and a drop meet while a message is under way.
+-- The pending rule: what a store, a load and a receive meet while a message is under way, and a free after it.
 use Rattle.std.specs.Prelude.{pos, [], ◌∷◌}
 use Rattle.mpc_values.specs.declared.values.Word.TheVariants.{Req}
 use Rattle.mpc_values.specs.declared.calls.Call.TheVariants as call
@@ -8,7 +8,6 @@ use Rattle.run_model.specs.Setup.{Setup}
 use Rattle.run_model.specs.Played.{asks, Goes}
 use Rattle.run_model.specs.Scenes.{private, shared, int, setup_on, flat, at, made, send, recv, done, gives, posted, got, got_nothing, broke, nothing, coll, waits, W}
 use Rattle.mpc_values.specs.declared.owners.Level.TheVariants.{Numa}
-use Rattle.mpc_values.specs.declared.values.Obj.TheVariants.{Dyn}
 use Rattle.topology.specs.Instances.{flat_machine}
 
 abbrev pub one : Setup
@@ -50,20 +49,15 @@ pub record Pending : Type 0 where
       ∷ asks 0 (recv (at 0 0) 1 (pos 0) (pos 0)) 9 (posted 1 1 0 0)
       ∷ asks 0 (send (at 0 0) 2 (pos 0) 0) 9 (broke fault.PendingTouch)
       ∷ [])
-  -- a drop and a free of an object that a message has: not before its completing call; a request left over at the end
-  pub drop_under_a_send : Goes one (
-      asks 0 call.Init 7 done
-      ∷ asks 0 (call.New 2) 9 (gives (made 1 0))
-      ∷ asks 0 (send (made 1 1) 1 (pos 0) 0) 9 (posted 1 1 0 0)
-      ∷ asks 0 call.Finalize 9 (broke fault.LeakedRequest)
-      ∷ asks 0 (call.Drop (Dyn 1)) 9 nothing
-      ∷ [])
-  pub drop_with_a_mark : Goes one (
+  -- after the completing call the block that a send had is freed; before it, see Buffers
+  pub free_after_completion : Goes one (
       asks 0 call.Init 7 done
       ∷ asks 0 (call.Malloc (pos 2)) 9 (gives (made 1 0))
       ∷ asks 0 (send (made 1 1) 1 (pos 0) 0) 9 (posted 1 1 0 0)
-      ∷ asks 0 (call.Free (made 1 0)) 9 (broke fault.PendingDrop)
+      ∷ asks 0 (call.Complete (Req 1)) 9 got_nothing
+      ∷ asks 0 (call.Free (made 1 0)) 9 done
       ∷ [])
+  -- whichever task it is that stores
   pub whichever_task : Goes sharing (
       asks 0 call.Init 7 done
       ∷ asks 1 call.Init 7 done

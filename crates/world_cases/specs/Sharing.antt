@@ -79,6 +79,21 @@ pub record Sharing : Type 0 where
       ∷ asks 0 (call.Load (at 0 1)) 10 (gives (int 1))
       ∷ asks 0 (call.HlsWait 0) 10 done ∷ asks 0 (call.HlsBarWait 7) 10 done
       ∷ [])
+  -- Task 0 comes to two meetings before task 1 comes to the first: it runs both, and task 1 skips both and runs the third.
+  pub one_is_ahead : Goes rounds (
+      asks 0 (call.HlsEnter 0) 9 runs
+      ∷ asks 0 (call.Store (at 0 0) (int 1)) 9 done
+      ∷ asks 0 (call.HlsExit 0) 9 done
+      ∷ asks 0 (call.HlsEnter 0) 9 runs
+      ∷ asks 0 (call.Store (at 0 1) (int 2)) 9 done
+      ∷ asks 0 (call.HlsExit 0) 9 done
+      ∷ asks 1 (call.HlsEnter 0) 9 skips
+      ∷ asks 1 (call.Load (at 0 0)) 9 (gives (int 1))
+      ∷ asks 1 (call.HlsEnter 0) 9 skips
+      ∷ asks 1 (call.Load (at 0 1)) 9 (gives (int 2))
+      ∷ asks 1 (call.HlsEnter 0) 9 runs
+      ∷ asks 0 (call.HlsEnter 0) 9 skips
+      ∷ [])
   pub from_the_inside : Goes alone (
       asks 0 (call.HlsEnter 0) 9 runs
       ∷ asks 0 (call.HlsEnter 0) 9 runs

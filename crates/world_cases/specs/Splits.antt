@@ -1,5 +1,5 @@
 -- Communicators are split, duplicated and freed, from the first entry to the last.
-use Rattle.std.specs.Prelude.{ℕ, ℤ, pos, negsuc, ◌+◌, List, [], ◌∷◌, ◌++◌, flat_map, codes}
+use Rattle.std.specs.Prelude.{ℕ, ℤ, pos, negsuc, List, [], ◌∷◌, ◌++◌, flat_map, codes}
 use Rattle.std.specs.List.{range_with_len}
 use Rattle.mpc_values.specs.declared.values.Word.TheVariants.{Comm}
 use Rattle.mpc_values.specs.declared.calls.Call.TheVariants as call

@@ -4,7 +4,6 @@ use Rattle.std.specs.Prelude.{◌≡◌, ℕ, pos, List, [], ◌∷◌}
 use Rattle.mpc_values.specs.declared.values.Word.{Word}
 use Rattle.mpc_base.specs.declared.journals.End.TheVariants as end
 use Rattle.run_model.specs.Setup.{Setup}
-use Rattle.run_model.specs.MemoryCalls.{load}
 use Rattle.run_model.specs.Ending.{ending}
 use Rattle.run_model.specs.Scenes.{private, int, flat, at, W}
 use Rattle.std.specs.Prelude.{codes}

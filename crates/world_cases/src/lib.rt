@@ -23,6 +23,9 @@ ghost use Rattle.world_cases.specs.Splits.{Splits};
 ghost use Rattle.world_cases.specs.Meetings.{Meetings};
 ghost use Rattle.world_cases.specs.Instances.{Instances};
 ghost use Rattle.world_cases.specs.Endings.{Endings};
+ghost use Rattle.world_cases.specs.FaultOrders.{FaultOrders};
+ghost use Rattle.world_cases.specs.Arrivals.{Arrivals};
+ghost use Rattle.world_cases.specs.Output.{Output};
 
 /// Six postings for one receiver meet as the queue should match them (MPI 3.1, section 3.5).
 pub fn matching()
@@ -44,7 +47,7 @@ pub fn held()
     ensures { Held }
 {}
 
-/// What a store, a load, a receive, a drop and a free meet while a message is under way.
+/// What a store, a load and a receive meet while a message is under way, and a free after it.
 pub fn pending()
     ensures { Pending }
 {}
@@ -54,7 +57,7 @@ pub fn communicators()
     ensures { Communicators }
 {}
 
-/// What each rank gets of a collective call, who waits, and what differs.
+/// What each rank gets of a collective call, who waits, and which arguments are looked at.
 pub fn collectives()
     ensures { Collectives }
 {}
@@ -127,4 +130,19 @@ pub fn instances()
 /// How runs end: dead blocks, the quota, arithmetic, an abort, and a fault while others wait.
 pub fn endings()
     ensures { Endings }
+{}
+
+/// Which fault a call has where several causes stand together.
+pub fn fault_orders()
+    ensures { FaultOrders }
+{}
+
+/// How two arrivals at a meeting differ, and leaves that write nothing.
+pub fn arrivals()
+    ensures { Arrivals }
+{}
+
+/// How much a task may print.
+pub fn output()
+    ensures { Output }
 {}

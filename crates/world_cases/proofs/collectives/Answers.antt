@@ -6,13 +6,13 @@ pub returns : goal.returns
 unfolding computing
 returns c = record {
   folds = refl;
-  roots_differ = refl;
-  own_counts_differ = refl;
   not_looked_at = refl;
   scatter_elsewhere = refl;
   scatter_parts = refl;
+  root_of_bcast = refl;
   first_of_exscan = refl;
   unset_in_fold = refl;
+  unset_in_gather = refl;
   result_is_last = refl;
   goes = refl;
   comes = refl;

@@ -8,12 +8,8 @@ returns c = record {
   truncated = refl;
   shorter = refl;
   mistyped = refl;
+  mistyped_too_long = refl;
+  mistyped_of_none = refl;
   unset_words = refl;
-  nobody = refl;
   to_nobody = refl;
-  first_fault_rank = refl;
-  first_fault_count = refl;
-  first_fault_null = refl;
-  first_fault_dead = refl;
-  first_fault_bounds = refl;
 }

@@ -13,6 +13,6 @@ returns c = record {
   calls = refl;
   abort_ends = refl;
   ends_aborted = refl;
+  init_twice = refl;
   no_finalize = refl;
-  no_finalize_at_end = refl;
 }

@@ -9,8 +9,7 @@ returns c = record {
   marks_end = refl;
   load_under_a_receive = refl;
   send_under_a_receive = refl;
-  drop_under_a_send = refl;
-  drop_with_a_mark = refl;
+  free_after_completion = refl;
   whichever_task = refl;
   result_under_a_receive = refl;
 }

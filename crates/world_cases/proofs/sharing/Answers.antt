@@ -12,5 +12,6 @@ returns c = record {
   one_copy = refl;
   two_instances = refl;
   one_runs_each_round = refl;
+  one_is_ahead = refl;
   from_the_inside = refl;
 }
