@@ -1,0 +1,10 @@
+pub mod Counts
+pub mod Tied
+pub mod Opened
+pub mod Histories
+pub mod Running
+pub mod Leaving
+pub mod Shown
+pub mod Steps
+pub mod Made
+pub mod Rows

@@ -5,7 +5,9 @@ ghost use Rattle.c_tree.specs.declared.program.HlsKind.TheVariants.{Single, Nowa
 ghost use Rattle.hls_sync.specs.declared.visits.Visit.{Visit};
 ghost use Rattle.hls_sync.specs.Meetings.{instance_size};
 ghost use Rattle.hls_sync.specs.Ways.{way_of, with_visit, may_go, running_visit, may_leave_bar};
-ghost use Rattle.hls_sync.specs.Cases.{site, visit};
+ghost use Rattle.c_tree.specs.declared.program.HlsKind.{HlsKind};
+ghost use Rattle.hls_sync.specs.Shown.{IsSiteOf};
+ghost use Rattle.hls_sync.specs.Cases.{site, visit, rows};
 
 /// Of each instance, a single runs its block on the last task to come and holds the others, and a single nowait runs it
 /// on the first to come, meeting by meeting.
@@ -32,4 +34,9 @@ pub fn tasks_wait_for_their_instance()
     ensures barrier_waits { may_leave_bar (site Barrier) (visit 0 0 ∷ visit 1 0 ∷ visit 3 0 ∷ []) 0 ≡ false }
     ensures barrier_goes { may_leave_bar (site Barrier) (visit 0 0 ∷ visit 2 0 ∷ []) 0 ≡ true }
     ensures barrier_not_arrived { may_leave_bar (site Barrier) [] 0 ≡ true }
+{}
+
+/// The rows of four tasks in two instances stand for the construct at which they meet, of whatever kind.
+pub fn rows_make_a_site()
+    ensures { (kind : HlsKind) → IsSiteOf rows (site kind) }
 {}
