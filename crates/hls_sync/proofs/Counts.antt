@@ -1,11 +1,11 @@
 -- Counts of a list that falls: those above a number stand in front.
-use Rattle.std.proofs.Common.{◌≡◌, ◌≢◌, ℕ, ◌+◌, ◌≤◌, ◌<◌, Bool, true, false, cond, ◌==◌, ltb, List, [], ◌∷◌, length, get_or, set, arith, refl, sym, ap, ◌∙◌, subst, inl, inr, zero, suc, ltb-true, ltb-false}
-use Rattle.std.specs.List.{count_by, sum_by, prefix_len, AllWithin}
+use Rattle.std.proofs.Common.{◌≡◌, ◌≢◌, ℕ, ◌+◌, ◌≤◌, ◌<◌, Bool, true, false, cond, ◌==◌, ltb, List, [], ◌∷◌, length, get_or, arith, refl, sym, ap, ◌∙◌, subst, inl, inr, zero, suc, ltb-true, ltb-false}
+use Rattle.std.specs.List.{count_by, prefix_len, AllWithin}
 use Rattle.std.specs.List.Sorted.{IsPartitionedBy, IsPartitionPoint}
 use Rattle.std.proofs.lemmas.Bool.{cases_eq, cases_order, le-ltb, lt-ltb, cond-true, cond-false}
 use Rattle.std.proofs.lemmas.Bool.Decides.{nat_tests}
 use Rattle.std.proofs.lemmas.List.{get_or_default, get_or-set_same, get_or-set_other, length-set}
-use Rattle.std.proofs.lemmas.List.Sums.{sum_by-cons, sum_by-set, sum_by-le-sum_by, prefix_len_passes, prefix_len_stops, prefix_len-le-length, count_by-le-length}
+use Rattle.std.proofs.lemmas.List.Sums.{sum_by-cons, sum_by-set, sum_by-le-sum_by, prefix_len_passes, prefix_len_stops, prefix_len-le-length}
 use Rattle.hls_sync.specs.Turnouts.{reached, once_more, advanced, IsFalling}
 
 -- one where a test passes, as counts add up

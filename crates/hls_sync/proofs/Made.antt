@@ -1,8 +1,8 @@
 -- The tables as rows are read.
-use Rattle.std.proofs.Common.{◌≡◌, ◌≢◌, ◌⊎◌, ℕ, ◌+◌, ◌≤◌, ◌<◌, Bool, true, false, cond, ◌&&◌, ◌==◌, ltb, List, [], ◌∷◌, ◌++◌, length, map, take, get_or, set, replicate, arith, refl, sym, ap, ◌∙◌, subst, inl, inr, zero, suc}
+use Rattle.std.proofs.Common.{◌≡◌, ◌⊎◌, ℕ, ◌+◌, ◌≤◌, ◌<◌, Bool, true, false, cond, ◌==◌, ltb, List, [], ◌∷◌, ◌++◌, length, map, take, get_or, set, replicate, arith, refl, sym, ap, ◌∙◌, subst, inl, inr, suc}
 use Rattle.std.specs.Prelude.{Option, Some, None, MatchOption}
-use Rattle.std.specs.List.{count_by, Contains, AllPairs, range_with_len}
-use Rattle.std.specs.Ordering.{is_eq, nat_cmp, ordering_then}
+use Rattle.std.specs.List.{count_by, Contains, range_with_len}
+use Rattle.std.specs.Ordering.{is_eq, nat_cmp}
 use Rattle.std.specs.declared.cmp.Ordering.{Ordering}
 use Rattle.std.specs.declared.cmp.Ordering.TheVariants.{Less, Equal, Greater}
 use Rattle.std.specs.BTreeMap.{BTreeMap, get, is_at}
@@ -17,8 +17,8 @@ use Rattle.hls_sync.specs.declared.visits.HlsRow.{HlsRow}
 use Rattle.hls_sync.specs.declared.seats.Seat.{Seat}
 use Rattle.hls_sync.specs.Meetings.{Site, instance_size}
 use Rattle.hls_sync.specs.Turnouts.{Turnout, reached}
-use Rattle.hls_sync.specs.Syncs.{Syncs, no_seat, no_turnout, seat_at, turnout_at}
-use Rattle.hls_sync.specs.Shown.{visit_at, IsApart, is_mate, IsSiteOf, ShowsRunning, ShowsSeat, Shows}
+use Rattle.hls_sync.specs.Syncs.{no_seat, no_turnout}
+use Rattle.hls_sync.specs.Shown.{visit_at, IsApart, is_mate, IsSiteOf, ShowsSeat, Shows}
 use Rattle.hls_sync.specs.Numbers.{pair_cmp, Numbers}
 use Rattle.hls_sync.specs.Kept.{is_of, is_in, IsTied}
 use Rattle.hls_sync.proofs.Counts.{one_if, count_split}

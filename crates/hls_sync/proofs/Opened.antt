@@ -1,13 +1,12 @@
 -- What reads of the tables' fields give, and what the tables keep after a write.
-use Rattle.std.proofs.Common.{◌≡◌, ℕ, ◌+◌, ◌<◌, List, length, map, get_or, set, arith, refl, sym, ap, ◌∙◌, subst}
+use Rattle.std.proofs.Common.{◌≡◌, ℕ, ◌<◌, List, length, get_or, set, arith, sym, ap, ◌∙◌, subst}
 use Rattle.std.specs.Prelude.{Option, Some}
-use Rattle.std.specs.List.{Contains}
 use Rattle.std.specs.BTreeMap.{BTreeMap, get}
 use Rattle.std.proofs.lemmas.List.{get_or_read, get_or-map, length-set, length-map}
 use Rattle.hls_sync.specs.declared.visits.HlsRow.{HlsRow}
 use Rattle.hls_sync.specs.declared.seats.Seat.{Seat}
-use Rattle.hls_sync.specs.Turnouts.{Turnout, reached, once_more, advanced, IsFalling}
-use Rattle.hls_sync.specs.Syncs.{Syncs, no_seat, no_turnout, seat_at, turnout_at, turnout_of, rows_of, IsGiven, IsSeat, arrived, with_running}
+use Rattle.hls_sync.specs.Turnouts.{Turnout, reached, advanced, IsFalling}
+use Rattle.hls_sync.specs.Syncs.{Syncs, no_seat, no_turnout, seat_at, turnout_at, turnout_of, rows_of, IsGiven, IsSeat}
 use Rattle.hls_sync.specs.Numbers.{pair_cmp}
 use Rattle.hls_sync.specs.Kept.{IsTied}
 use Rattle.hls_sync.proofs.Tied.{few_reached, one_there, seat_kept, came_once_more, turnout_after, tied_arrived, tied_running}

@@ -1,5 +1,5 @@
 -- The rows of four tasks in two instances.
-use Rattle.std.proofs.Common.{◌≡◌, ℕ, ◌+◌, ◌%◌, ◌<◌, List, [], ◌∷◌, length, get_or, refl, sym, subst, arith, zero, suc}
+use Rattle.std.proofs.Common.{◌≡◌, ℕ, ◌%◌, ◌<◌, List, get_or, refl, sym, subst, arith, zero, suc}
 use Rattle.std.specs.List.{Contains, count_by}
 use Rattle.c_tree.specs.declared.program.HlsKind.{HlsKind}
 use Rattle.hls_sync.specs.declared.visits.HlsRow.{HlsRow}

@@ -1,20 +1,19 @@
 -- Who runs the block of a single, after an arrival and after an exit.
-use Rattle.std.proofs.Common.{◌≡◌, ◌≢◌, ℕ, ◌+◌, ◌≤◌, ◌<◌, Bool, true, false, cond, ◌&&◌, ◌==◌, ltb, List, [], ◌∷◌, ◌++◌, length, map, arith, refl, sym, ap, ◌∙◌, subst, inl, inr}
+use Rattle.std.proofs.Common.{◌≡◌, ◌≢◌, ℕ, ◌+◌, ◌≤◌, ◌<◌, true, false, cond, ◌==◌, ltb, List, [], ◌∷◌, ◌++◌, length, arith, refl, sym, ap, ◌∙◌, subst, inl, inr}
 use Rattle.std.specs.Prelude.{Option, Some, None, filter}
-use Rattle.std.specs.List.{All, last_or, count_by}
-use Rattle.std.proofs.lemmas.Bool.{cases_Bool, cases_eq, cases_order, and_parts, and_from, and_left, and_right, eq-eqb, eqb-true, ne_eqb, both_ways, not-true, not_from_false}
+use Rattle.std.specs.List.{All, last_or}
+use Rattle.std.proofs.lemmas.Bool.{cases_Bool, cases_eq, cases_order, and_parts, and_from, and_left, and_right, eq-eqb, eqb-true, ne_eqb, both_ways}
 use Rattle.std.proofs.lemmas.List.Elements.{filter_passes, All-filter, All-map, All-weaker}
 use Rattle.std.proofs.lemmas.List.Sums.{count_by-le-length}
-use Rattle.c_tree.specs.declared.program.HlsKind.{HlsKind}
 use Rattle.c_tree.specs.declared.program.HlsKind.TheVariants.{Single}
 use Rattle.hls_sync.specs.declared.visits.Visit.{Visit}
 use Rattle.hls_sync.specs.Meetings.{Site, are_together, instance_size, is_visit_of, visits_of, tasks_at, all_came}
-use Rattle.hls_sync.specs.Ways.{has_exit, runner_in, runner_of, is_task, is_running, running_visit, with_exit}
-use Rattle.hls_sync.specs.Turnouts.{reached, without_running}
+use Rattle.hls_sync.specs.Ways.{has_exit, runner_in, runner_of, is_task, is_running, running_visit}
+use Rattle.hls_sync.specs.Turnouts.{reached}
 use Rattle.hls_sync.proofs.Counts.{one_if}
 use Rattle.hls_sync.specs.Shown.{visit_at, unended, ShowsRunning}
 use Rattle.hls_sync.proofs.Tied.{reached_fewer}
-use Rattle.hls_sync.proofs.Histories.{is_at, tasks_at_other, tasks_at_own, length_tasks_at, is_exit, has_exit_other, has_exit_own, has_exit_kept, last_push, last_is_there, last_all, last_passing, all_came_same, runner_same, tasks_at_together, all_came_together, runner_together}
+use Rattle.hls_sync.proofs.Histories.{is_at, tasks_at_other, tasks_at_own, length_tasks_at, last_push, last_all, all_came_same, runner_same}
 
 -- Where no meeting of the instance changes, nothing changes.
 pub running_same : (running : Option ℕ) (site : Site) (visits visits' exits : List Visit) (task : ℕ)

@@ -1,27 +1,20 @@
 -- What the tables stand for, before and after each call.
-use Rattle.std.proofs.Common.{◌≡◌, ◌≢◌, ℕ, ◌+◌, ◌-◌, ◌≤◌, ◌<◌, Bool, true, false, cond, ◌&&◌, ◌||◌, ◌==◌, not, List, [], ◌∷◌, ◌++◌, length, map, get_or, set, arith, refl, sym, ap, ◌∙◌, subst, inl, inr}
-use Rattle.std.specs.Prelude.{Option, Some, None, filter, is_some}
+use Rattle.std.proofs.Common.{◌≡◌, ◌≢◌, ℕ, ◌+◌, ◌-◌, ◌<◌, Bool, true, false, cond, ◌&&◌, ◌||◌, ◌==◌, not, List, length, map, set, arith, refl, sym, ap, ◌∙◌, inl, inr}
+use Rattle.std.specs.Prelude.{Option, Some, None, is_some}
 use Rattle.std.specs.Option.{option_map}
 use Rattle.std.specs.List.{last_or, range_with_len}
-use Rattle.std.proofs.lemmas.Bool.{cases_Bool, cases_eq, and_parts, and_from, and_left, and_right, eq-eqb, eqb-true, ne_eqb, both_ways}
-use Rattle.std.proofs.lemmas.List.{get_or-set_same, get_or-set_other, length-set, map-set}
+use Rattle.std.proofs.lemmas.Bool.{cases_Bool, cases_eq, eq-eqb, eqb-true, ne_eqb}
 use Rattle.std.proofs.lemmas.List.FromFn.{length-map-range_with_len, map-range_with_len_more}
-use Rattle.c_tree.specs.declared.program.HlsKind.{HlsKind}
 use Rattle.c_tree.specs.declared.program.HlsKind.TheVariants.{Single}
-use Rattle.mpc_values.specs.declared.limits.TheConstants.{MAX_GIVEN}
-use Rattle.hls_sync.specs.declared.visits.HlsRow.{HlsRow}
 use Rattle.hls_sync.specs.declared.visits.Visit.{Visit}
 use Rattle.hls_sync.specs.declared.seats.Seat.{Seat}
-use Rattle.hls_sync.specs.Meetings.{Site, are_together, instance_size, is_visit_of, visits_of, next_visit, latest_visit, tasks_at, all_came}
-use Rattle.hls_sync.specs.Ways.{way_in, way_of, with_visit, has_exit, has_exit_of, has_ended, runner_in, runner_of, may_go, is_whole, may_leave_bar, running_visit, with_exit}
-use Rattle.hls_sync.specs.Turnouts.{Turnout, reached, once_more, advanced}
-use Rattle.hls_sync.specs.Syncs.{Syncs, no_seat, no_turnout, seat_at, turnout_at, turnout_of, rows_of, IsSeat, arrived, with_running}
-use Rattle.hls_sync.specs.Shown.{visit_at, unended, ShowsRunning, ShowsSeat, Shows, Arrives, Leaves}
-use Rattle.hls_sync.specs.Kept.{IsTied}
-use Rattle.hls_sync.proofs.Tied.{came_once_more, few_reached, more_before}
-use Rattle.hls_sync.proofs.Histories.{visits_of_other, visits_of_own, is_at, tasks_at_other, length_tasks_at, last_push, last_is_there}
-use Rattle.hls_sync.proofs.Running.{Comes, next, running_same, running_held, running_begun, not_later}
-use Rattle.hls_sync.proofs.Leaving.{running_left, running_elsewhere, running_away}
+use Rattle.hls_sync.specs.Meetings.{Site, instance_size, next_visit, latest_visit, tasks_at, all_came}
+use Rattle.hls_sync.specs.Ways.{way_in, way_of, has_exit, has_exit_of, has_ended, runner_in, runner_of, may_go, is_whole, may_leave_bar}
+use Rattle.hls_sync.specs.Turnouts.{Turnout, reached, advanced}
+use Rattle.hls_sync.specs.Syncs.{Syncs, seat_at, turnout_at, turnout_of}
+use Rattle.hls_sync.specs.Shown.{visit_at, unended, ShowsSeat}
+use Rattle.hls_sync.proofs.Tied.{came_once_more}
+use Rattle.hls_sync.proofs.Histories.{last_push, last_is_there}
 
 -- the number of a task's next meeting
 pub next_is : (t : Turnout) (s : Seat) (site : Site) (visits exits : List Visit) → ShowsSeat t s site visits exits → next_visit visits site.construct s.row.task ≡ s.came

@@ -1,8 +1,8 @@
 -- The tables stand for one arrival more, or for one exit more.
-use Rattle.std.proofs.Common.{◌≡◌, ◌≢◌, ℕ, ◌+◌, ◌-◌, ◌≤◌, ◌<◌, Bool, true, false, cond, ◌&&◌, ◌||◌, ◌==◌, not, List, [], ◌∷◌, ◌++◌, length, map, get_or, set, arith, refl, sym, ap, ◌∙◌, subst, inl, inr}
-use Rattle.std.specs.Prelude.{Option, Some, None, is_some}
+use Rattle.std.proofs.Common.{◌≡◌, ◌≢◌, ℕ, ◌+◌, ◌-◌, ◌<◌, Bool, true, false, cond, ◌&&◌, ◌||◌, ◌==◌, not, List, [], ◌∷◌, ◌++◌, length, map, get_or, set, arith, refl, sym, ap, ◌∙◌, subst, inl, inr}
+use Rattle.std.specs.Prelude.{Option, Some, is_some}
 use Rattle.std.specs.List.{count_by, range_with_len}
-use Rattle.std.proofs.lemmas.Bool.{cases_eq, and_from, and_left, and_right, eq-eqb, eqb-true, ne_eqb}
+use Rattle.std.proofs.lemmas.Bool.{cases_eq, and_from, and_left, and_right, eq-eqb, ne_eqb}
 use Rattle.std.proofs.lemmas.List.{get_or-set_same, get_or-set_other, length-set, map-set, set-get_or, get_or-map}
 use Rattle.std.proofs.lemmas.List.FromFn.{map-range_with_len_more}
 use Rattle.std.proofs.lemmas.List.Sums.{length-filter, count_by-le-length}
@@ -14,9 +14,9 @@ use Rattle.hls_sync.specs.declared.visits.HlsRow.{HlsRow}
 use Rattle.hls_sync.specs.declared.visits.Visit.{Visit}
 use Rattle.hls_sync.specs.declared.seats.Seat.{Seat}
 use Rattle.hls_sync.specs.Meetings.{Site, are_together, instance_size, is_visit_of, visits_of, next_visit, tasks_at}
-use Rattle.hls_sync.specs.Ways.{way_in, way_of, with_visit, may_go, may_leave_bar, running_visit, with_exit}
+use Rattle.hls_sync.specs.Ways.{way_in, way_of, may_go, may_leave_bar, running_visit, with_exit}
 use Rattle.hls_sync.specs.Turnouts.{Turnout, reached, once_more, advanced, without_running}
-use Rattle.hls_sync.specs.Syncs.{Syncs, no_seat, no_turnout, seat_at, turnout_at, turnout_of, rows_of, IsSeat, arrived, with_running}
+use Rattle.hls_sync.specs.Syncs.{Syncs, no_seat, no_turnout, seat_at, turnout_at, turnout_of, IsSeat, arrived, with_running}
 use Rattle.hls_sync.specs.Shown.{visit_at, ShowsRunning, ShowsSeat, Shows, Arrives, Leaves}
 use Rattle.hls_sync.specs.Kept.{IsTied}
 use Rattle.hls_sync.proofs.Counts.{reached_advanced, one_if}

@@ -1,10 +1,10 @@
 -- What the tables keep.
-use Rattle.std.specs.Prelude.{◌≡◌, ℕ, ◌<◌, ◌==◌, ◌&&◌, nat_lt, Bool, List, length, Some}
+use Rattle.std.specs.Prelude.{◌≡◌, ℕ, ◌<◌, ◌==◌, ◌&&◌, nat_lt, Bool, length, Some}
 use Rattle.std.specs.List.{count_by}
 use Rattle.std.specs.BTreeMap.{get}
 use Rattle.hls_sync.specs.declared.seats.Seat.{Seat}
 use Rattle.hls_sync.specs.declared.syncs.HlsSync.TheInside.{Inside}
-use Rattle.hls_sync.specs.Turnouts.{Turnout, reached}
+use Rattle.hls_sync.specs.Turnouts.{reached}
 use Rattle.hls_sync.specs.Numbers.{pair_cmp}
 use Rattle.hls_sync.specs.Syncs.{Syncs, seat_at, turnout_at}
 

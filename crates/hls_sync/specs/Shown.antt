@@ -1,8 +1,8 @@
 -- Which arrivals and exits the tables of meetings stand for.
-use Rattle.std.specs.Prelude.{◌≡◌, ◌≢◌, ℕ, ◌+◌, ◌<◌, ◌==◌, ◌&&◌, Bool, true, false, if◌then◌else◌, List, [], ◌∷◌, length, map, Option, Some, None}
+use Rattle.std.specs.Prelude.{◌≡◌, ◌≢◌, ℕ, ◌+◌, ◌<◌, ◌==◌, ◌&&◌, Bool, true, false, if◌then◌else◌, List, length, map, Option, Some, None}
 use Rattle.std.specs.List.{AllPairs, Contains, count_by, range_with_len}
 use Rattle.c_tree.specs.declared.program.HlsKind.{HlsKind}
-use Rattle.c_tree.specs.declared.program.HlsKind.TheVariants.{Single, Nowait, Barrier}
+use Rattle.c_tree.specs.declared.program.HlsKind.TheVariants.{Single}
 use Rattle.mpc_values.specs.declared.limits.TheConstants.{MAX_GIVEN}
 use Rattle.hls_sync.specs.declared.visits.HlsRow.{HlsRow}
 use Rattle.hls_sync.specs.declared.visits.Visit.{Visit}

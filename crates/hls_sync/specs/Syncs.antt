@@ -1,5 +1,5 @@
 -- What the tables of meetings are seen as: the seat of each row, and what is kept of each instance.
-use Rattle.std.specs.Prelude.{◌≡◌, ℕ, ◌<◌, List, [], length, slice_index_or, slice_set, map, Option, Some, None}
+use Rattle.std.specs.Prelude.{◌≡◌, ℕ, ◌<◌, List, [], length, slice_index_or, slice_set, map, Option, None}
 use Rattle.std.specs.List.{Contains}
 use Rattle.hls_sync.specs.declared.visits.HlsRow.{HlsRow}
 use Rattle.hls_sync.specs.declared.seats.Seat.{Seat}

@@ -1,9 +1,9 @@
-use Rattle.std.proofs.Common.{◌≡◌, ℕ, ◌<◌, length, get_or, subst, sym, ap, ◌∙◌, arith}
+use Rattle.std.proofs.Common.{◌≡◌, ◌<◌, length, get_or, subst, sym, ap, ◌∙◌, arith}
 use Rattle.hls_sync.specs.declared.seats.Seat.{Seat}
 use Rattle.hls_sync.specs.Turnouts.{Turnout, reached, once_more, IsFalling}
 use Rattle.hls_sync.specs.Syncs.{Syncs, seat_at, turnout_of}
-use Rattle.hls_sync.specs.Kept.{seen_of, IsTied}
-use Rattle.hls_sync.proofs.Tied.{one_there, came_once_more}
+use Rattle.hls_sync.specs.Kept.{seen_of}
+use Rattle.hls_sync.proofs.Tied.{one_there}
 use Rattle.hls_sync.proofs.Opened.{read_seat, read_turnout, few_read, one_read, tied_written, finds_kept}
 use Rattle.hls_sync.proofs.syncs.HlsSync.arrive.Goals as goal
 
