@@ -1,0 +1,14 @@
+pub mod Ranks
+pub mod Folding
+pub mod Agreeing
+pub mod Tags
+pub mod Comparisons
+pub mod Lists
+pub mod Turns
+pub mod Whole
+pub mod Showing
+pub mod Leaving
+pub mod Tables
+pub mod Telling
+pub mod Beginning
+pub mod Fields

@@ -3,12 +3,20 @@
 #![tactic(auto)]
 
 mod arrivals;
+mod comparing;
+mod gatherings;
 mod laws;
+mod reducing;
+mod results;
+mod rooms;
+mod shares;
+mod steps;
 
 pub use arrivals::Arrival;
 pub use laws::{
     arguments_are_looked_at_where_they_count, members_get_their_results, members_meet_in_turn,
 };
+pub use steps::tables_follow_the_arrivals;
 
 #[cfg(test)]
 mod tests;

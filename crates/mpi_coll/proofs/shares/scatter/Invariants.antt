@@ -1,0 +1,7 @@
+use Rattle.std.proofs.Common.{◌≡◌, map}
+use Rattle.std.specs.List.{range_with_len}
+use Rattle.mpi_coll.specs.Results.{part_of}
+use Rattle.mpi_coll.proofs.shares.scatter.Given as goal
+
+abbrev pub invariant-loop-rank : goal.invariant-loop-rank
+invariant-loop-rank l = l.all.items ≡ map (λ rank. part_of rank l.count l.words) (range_with_len 0 l.rank)
