@@ -1,5 +1,5 @@
 -- Calls that agree: agreeing is the same from both sides, and such calls give each member the same.
-use Rattle.std.proofs.Common.{◌≡◌, ℕ, ℤ, pos, Bool, true, false, ◌&&◌, ◌==◌, not, List, [], ◌∷◌, get_or, refl, ap, sym, ◌∙◌, arith}
+use Rattle.std.proofs.Common.{◌≡◌, ℕ, ℤ, pos, Bool, true, false, ◌&&◌, ◌==◌, not, List, [], ◌∷◌, get_or, refl, ap, sym, ◌∙◌}
 use Rattle.std.specs.Prelude.{◌||◌, nat_abs}
 use Rattle.std.specs.Ordering.{int_eq}
 use Rattle.std.proofs.lemmas.Bool.{false≢true}

@@ -1,11 +1,10 @@
 -- The tables before the first arrival.
-use Rattle.std.proofs.Common.{◌≡◌, ℕ, ◌+◌, ◌<◌, ◌≤◌, false, List, [], length, map, get_or, inl, inr, refl, sym, ◌∙◌, arith}
-use Rattle.std.specs.Prelude.{Option, Some, None, is_some, nat_lt}
+use Rattle.std.proofs.Common.{◌≡◌, ℕ, [], map, get_or, inl, inr, refl, sym, arith}
+use Rattle.std.specs.Prelude.{nat_lt}
 use Rattle.std.specs.List.{range_with_len}
 use Rattle.std.proofs.lemmas.Bool.{cases_lt}
 use Rattle.std.proofs.lemmas.List.{get_or_past}
 use Rattle.std.proofs.lemmas.List.FromFn.{length-map-range_with_len, get_or-map-range_with_len}
-use Rattle.mpc_values.specs.declared.values.Word.{Word}
 use Rattle.mpi_coll.specs.Rooms.{begun, past, IsWhole}
 use Rattle.mpi_coll.specs.Shown.{Shows}
 use Rattle.mpi_coll.proofs.Comparisons.{lt_no}

@@ -1,14 +1,14 @@
 -- The fields of a communicator's tables after each change are those of the next tables.
-use Rattle.std.proofs.Common.{◌≡◌, ℕ, ◌+◌, ◌-◌, ◌<◌, ◌≤◌, false, true, List, [], ◌∷◌, length, map, drop, get_or, set, not, inl, inr, refl, ap, sym, ◌∙◌, subst, arith}
-use Rattle.std.specs.Prelude.{Option, Some, None, slice_get, nat_lt}
+use Rattle.std.proofs.Common.{◌≡◌, ℕ, ◌+◌, ◌-◌, ◌<◌, ◌≤◌, false, true, List, [], length, map, drop, get_or, set, not, inl, inr, refl, ap, sym, ◌∙◌, subst, arith}
+use Rattle.std.specs.Prelude.{Option, Some, slice_get, nat_lt}
 use Rattle.std.specs.List.{range_with_len}
 use Rattle.std.proofs.lemmas.Bool.{cases_lt}
 use Rattle.std.proofs.lemmas.List.{get_or_read, get_or_past}
 use Rattle.std.proofs.lemmas.List.FromFn.{length-map-range_with_len}
-use Rattle.std.proofs.lemmas.Option.{slice_get_read, slice_get_within}
+use Rattle.std.proofs.lemmas.Option.{slice_get_read}
 use Rattle.mpc_values.specs.declared.values.Word.{Word}
 use Rattle.mpc_values.specs.declared.collectives.Coll.{Coll}
-use Rattle.mpi_coll.specs.Rooms.{Gathered, Tables, size_in, begun, made_by, gone_by, place_of, is_due, past, put_in, come_to, differs_from, differs_in, with_place, put_at, prepared, is_last, counted_at, entered, filled, departed, IsWhole}
+use Rattle.mpi_coll.specs.Rooms.{Gathered, Tables, begun, made_by, gone_by, place_of, is_due, past, put_in, come_to, differs_from, differs_in, with_place, put_at, prepared, is_last, counted_at, entered, filled, departed, IsWhole}
 use Rattle.mpi_coll.proofs.Comparisons.{lt_yes, lt_no, lt_from, ge_from, both_from, not_from}
 use Rattle.mpi_coll.proofs.Lists.{counts_below}
 use Rattle.mpi_coll.proofs.Whole.{whole-left}

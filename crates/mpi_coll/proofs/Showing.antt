@@ -1,8 +1,7 @@
 -- The tables of a communicator stand for the arrivals after each step.
-use Rattle.std.proofs.Common.{◌≡◌, ◌≢◌, ℕ, zero, suc, ◌+◌, ◌-◌, ◌<◌, ◌≤◌, Bool, true, false, cond, ◌==◌, ◌&&◌, not, List, [], ◌∷◌, ◌++◌, length, map, drop, get_or, set, ◌⊎◌, inl, inr, refl, ap, sym, ◌∙◌, subst, arith}
-use Rattle.std.specs.Prelude.{Option, Some, None, is_some, filter_map, slice_get, count_by, nat_lt}
-use Rattle.std.specs.List.{range_with_len}
-use Rattle.std.proofs.lemmas.Bool.{false≢true, cases_eq, cases_lt}
+use Rattle.std.proofs.Common.{◌≡◌, ◌≢◌, ℕ, ◌+◌, ◌-◌, ◌<◌, ◌≤◌, true, false, cond, ◌==◌, not, List, [], ◌∷◌, ◌++◌, length, map, drop, get_or, set, inl, inr, ap, sym, ◌∙◌, subst, arith}
+use Rattle.std.specs.Prelude.{Some, None, is_some, slice_get, nat_lt}
+use Rattle.std.proofs.lemmas.Bool.{cases_eq, cases_lt}
 use Rattle.std.proofs.lemmas.List.{length-set, get_or-set_same, get_or-set_other, get_or_past}
 use Rattle.std.proofs.lemmas.Option.{slice_get_within}
 use Rattle.mpc_values.specs.declared.values.Word.{Word}
@@ -10,12 +9,12 @@ use Rattle.mpc_values.specs.declared.collectives.Coll.{Coll}
 use Rattle.mpi_coll.specs.declared.arrivals.Arrival.{Arrival}
 use Rattle.mpi_coll.specs.Meetings.{agree, next_meeting, latest_arrival, meeting_of, is_full}
 use Rattle.mpi_coll.specs.Results.{result_of}
-use Rattle.mpi_coll.specs.Rooms.{Gathered, Tables, size_in, past, fresh, put_in, come_to, IsGathered, IsWhole}
-use Rattle.mpi_coll.specs.Shown.{is_of, arrival_at, next_arrival, with_next, outcome_in, outcome, Holds, InTurn, Shows}
+use Rattle.mpi_coll.specs.Rooms.{Gathered, Tables, size_in, past, fresh, put_in, come_to, IsWhole}
+use Rattle.mpi_coll.specs.Shown.{arrival_at, next_arrival, with_next, outcome_in, outcome, Holds, InTurn, Shows}
 use Rattle.mpi_coll.proofs.Agreeing.{agree-mirror, agree-along, Alike-from_agree, agree-result_of}
 use Rattle.mpi_coll.proofs.Comparisons.{lt_yes, lt_no, lt_from, ge_from, eq_yes, eq_no}
 use Rattle.mpi_coll.proofs.Lists.{length-filter_map-all, length-filter_map-lt, fails_somewhere, counts_some, is_some-true, filter_map-each, slice_get-push_cases, slice_get-set_cases, slice_get-set_other, slice_get-drop_1}
-use Rattle.mpi_coll.proofs.Turns.{arrival_at-kept, arrival_at-new, next-own, next-other, latest-own, latest-other, meeting-kept, by-own, by-other, of-own, of-other, none-after, InTurn-next, InTurn-elsewhere}
+use Rattle.mpi_coll.proofs.Turns.{arrival_at-kept, arrival_at-new, next-own, next-other, latest-own, latest-other, meeting-kept, by-own, by-other, of-own, of-other, none-after, InTurn-next}
 
 -- How many meetings are full, by the tables.
 pub full_is : (t : Tables) (arrivals : List Arrival) (comm : ℕ) → IsWhole t → InTurn arrivals comm → ((rank : ℕ) → get_or t.made rank 0 ≡ next_meeting arrivals comm rank) → 0 < length t.made

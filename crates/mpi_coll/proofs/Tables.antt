@@ -1,17 +1,17 @@
 -- Each step of the tables keeps them whole, and gives the tables of the arrivals after it.
-use Rattle.std.proofs.Common.{◌≡◌, ◌≢◌, ℕ, zero, suc, ◌+◌, ◌-◌, ◌<◌, ◌≤◌, Bool, true, false, cond, ◌==◌, ◌&&◌, not, List, [], ◌∷◌, ◌++◌, length, map, drop, get_or, set, ◌⊎◌, inl, inr, refl, ap, sym, ◌∙◌, subst, arith}
-use Rattle.std.specs.Prelude.{Option, Some, None, is_some, slice_get, nat_lt}
-use Rattle.std.specs.List.{range_with_len, list_any}
-use Rattle.std.proofs.lemmas.Bool.{false≢true, cases_eq, cases_lt}
-use Rattle.std.proofs.lemmas.List.{length-set, get_or_past}
+use Rattle.std.proofs.Common.{◌≡◌, ◌≢◌, ℕ, ◌+◌, ◌-◌, ◌<◌, Bool, true, false, cond, ◌==◌, ◌&&◌, not, List, [], ◌∷◌, ◌++◌, length, map, get_or, set, ◌⊎◌, inl, inr, refl, ap, sym, ◌∙◌, subst, arith}
+use Rattle.std.specs.Prelude.{Option, Some, None, slice_get}
+use Rattle.std.specs.List.{range_with_len}
+use Rattle.std.proofs.lemmas.Bool.{false≢true}
+use Rattle.std.proofs.lemmas.List.{length-set}
 use Rattle.std.proofs.lemmas.List.FromFn.{length-map-range_with_len}
 use Rattle.std.proofs.lemmas.Option.{slice_get_within}
 use Rattle.mpc_values.specs.declared.values.Word.{Word}
 use Rattle.mpc_values.specs.declared.collectives.Coll.{Coll}
 use Rattle.mpi_coll.specs.declared.arrivals.Arrival.{Arrival}
-use Rattle.mpi_coll.specs.Meetings.{agree, next_meeting, latest_arrival}
+use Rattle.mpi_coll.specs.Meetings.{agree, next_meeting}
 use Rattle.mpi_coll.specs.Results.{result_of}
-use Rattle.mpi_coll.specs.Rooms.{Gathered, Tables, size_in, made_by, place_of, fresh, put_in, come_to, differs_from, differs_in, with_place, put_at, prepared, is_last_in, is_last, counted_at, entered, filled, IsWhole}
+use Rattle.mpi_coll.specs.Rooms.{Gathered, Tables, size_in, place_of, fresh, put_in, differs_from, differs_in, with_place, put_at, prepared, is_last_in, is_last, counted_at, entered, filled, IsWhole}
 use Rattle.mpi_coll.specs.Shown.{next_arrival, with_next, outcome_in, Holds, Shows}
 use Rattle.mpi_coll.proofs.Comparisons.{eq_yes, eq_from, ne_from, both_yes, both_from}
 use Rattle.mpi_coll.proofs.Agreeing.{agree-itself}

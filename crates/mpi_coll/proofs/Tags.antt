@@ -1,5 +1,5 @@
 -- Comparing two kinds of calls, operations or datatypes compares their numbers.
-use Rattle.std.proofs.Common.{◌≡◌, ◌==◌, ℕ, refl, ap, ◌∙◌}
+use Rattle.std.proofs.Common.{◌≡◌, ◌==◌, refl, ap, ◌∙◌}
 use denote.Enum.Bare.{sameb}
 use denote.Enum.Declared.{tag_of}
 use Rattle.mpc_values.specs.declared.values.Op.{Op}

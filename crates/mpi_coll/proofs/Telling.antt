@@ -1,15 +1,14 @@
 -- What the tables tell of the arrivals: whether a call differs, whether a member can leave, and what it gets.
-use Rattle.std.proofs.Common.{◌≡◌, ◌≢◌, ℕ, zero, suc, ◌+◌, ◌-◌, ◌<◌, ◌≤◌, Bool, true, false, cond, ◌==◌, ◌&&◌, not, List, [], ◌∷◌, length, get_or, ◌⊎◌, inl, inr, refl, ap, sym, ◌∙◌, subst, arith}
-use Rattle.std.specs.Prelude.{◌||◌, Option, Some, None, is_some, find, slice_get, count_by, nat_lt}
+use Rattle.std.proofs.Common.{◌≡◌, ◌≢◌, ℕ, suc, ◌+◌, ◌-◌, ◌<◌, ◌≤◌, Bool, true, false, cond, ◌==◌, ◌&&◌, not, List, [], ◌∷◌, length, get_or, inl, inr, refl, ap, sym, ◌∙◌, subst, arith}
+use Rattle.std.specs.Prelude.{◌||◌, Option, Some, None, find, slice_get, nat_lt}
 use Rattle.std.specs.List.{list_any, last_or}
 use Rattle.std.proofs.lemmas.Bool.{false≢true, cases_lt}
 use Rattle.std.proofs.lemmas.List.{get_or_past}
-use Rattle.mpc_values.specs.declared.values.Word.{Word}
 use Rattle.mpc_values.specs.declared.collectives.Coll.{Coll}
 use Rattle.mpi_coll.specs.declared.arrivals.Arrival.{Arrival}
 use Rattle.mpi_coll.specs.Meetings.{agree, is_at, arrivals_of, next_meeting, latest_arrival, is_full, differs}
 use Rattle.mpi_coll.specs.Rooms.{Gathered, Tables, size_in, made_by, gone_by, place_of, past, differs_from, differs_in, is_due, departed, IsWhole}
-use Rattle.mpi_coll.specs.Shown.{is_of, arrival_at, with_leave, outcome, is_ready_at, is_ready, InTurn, Shows}
+use Rattle.mpi_coll.specs.Shown.{is_of, arrival_at, with_leave, outcome, is_ready_at, is_ready, Shows}
 use Rattle.mpi_coll.proofs.Comparisons.{lt_yes, lt_no, lt_from, ge_from, eq_from, ne_from, both_from, not_from, no_left, no_second}
 use Rattle.mpi_coll.proofs.Agreeing.{agree-mirror, agree-along}
 use Rattle.mpi_coll.proofs.Lists.{counts_some, passes_somewhere, last_or-some, is_some-true, there_is}

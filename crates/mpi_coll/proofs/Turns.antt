@@ -1,17 +1,17 @@
 -- What one arrival more, and a leave, change in the arrivals so far.
-use Rattle.std.proofs.Common.{◌≡◌, ◌≢◌, ℕ, ◌+◌, ◌<◌, ◌≤◌, Bool, true, false, cond, ◌==◌, ◌&&◌, not, ltb, List, [], ◌∷◌, ◌++◌, length, map, ◌⊎◌, inl, inr, refl, ap, sym, ◌∙◌, subst, arith}
-use Rattle.std.specs.Prelude.{Option, Some, None, is_some, find, filter, filter_map, slice_get, nat_lt}
-use Rattle.std.specs.Option.{option_or, option_map}
-use Rattle.std.specs.List.{range_with_len, last_or}
-use Rattle.std.proofs.lemmas.Bool.{false≢true, cases_eq, cases_lt}
-use Rattle.std.proofs.lemmas.List.{length_push, append-nil, length-map}
+use Rattle.std.proofs.Common.{◌≡◌, ◌≢◌, ℕ, ◌+◌, ◌≤◌, Bool, true, false, cond, ◌==◌, ◌&&◌, List, [], ◌∷◌, ◌++◌, length, ◌⊎◌, inl, inr, refl, ap, sym, ◌∙◌, subst, arith}
+use Rattle.std.specs.Prelude.{Option, Some, None, is_some, find, slice_get, nat_lt}
+use Rattle.std.specs.Option.{option_or}
+use Rattle.std.specs.List.{last_or}
+use Rattle.std.proofs.lemmas.Bool.{cases_eq, cases_lt}
+use Rattle.std.proofs.lemmas.List.{length_push, append-nil}
 use Rattle.std.proofs.lemmas.List.Folds.{find-append}
 use Rattle.std.proofs.lemmas.List.Elements.{filter-append}
 use Rattle.mpc_values.specs.declared.values.Word.{Word}
 use Rattle.mpc_values.specs.declared.collectives.Coll.{Coll}
 use Rattle.mpi_coll.specs.declared.arrivals.Arrival.{Arrival}
-use Rattle.mpi_coll.specs.Meetings.{is_at, arrivals_of, next_meeting, latest_arrival, meeting_of, is_full}
-use Rattle.mpi_coll.specs.Shown.{is_of, arrival_at, next_arrival, with_next, marked, with_leave, InTurn}
+use Rattle.mpi_coll.specs.Meetings.{arrivals_of, next_meeting, latest_arrival, meeting_of}
+use Rattle.mpi_coll.specs.Shown.{is_of, arrival_at, next_arrival, with_next, InTurn}
 use Rattle.mpi_coll.proofs.Comparisons.{lt_yes, lt_no, eq_yes, eq_no, both_yes, no_left, no_right}
 use Rattle.mpi_coll.proofs.Lists.{filter_map-same, last_or-push, is_some-false, slice_get-push_cases}
 

@@ -1,14 +1,13 @@
 -- The tables stay whole in each step.
-use Rattle.std.proofs.Common.{◌≡◌, ◌≢◌, ℕ, zero, suc, ◌+◌, ◌-◌, ◌<◌, ◌≤◌, Bool, true, false, cond, ◌==◌, ◌&&◌, List, [], ◌∷◌, ◌++◌, length, map, drop, get_or, set, ◌⊎◌, inl, inr, refl, ap, sym, ◌∙◌, subst, arith}
-use Rattle.std.specs.Prelude.{Option, Some, None, slice_get, count_by, nat_lt}
-use Rattle.std.specs.List.{range_with_len}
-use Rattle.std.proofs.lemmas.Bool.{false≢true, cases_eq, cases_lt}
-use Rattle.std.proofs.lemmas.List.{length-set, length_push, length-map, length-drop, get_or-set_same, get_or-set_other, set_past}
+use Rattle.std.proofs.Common.{◌≡◌, ◌≢◌, ℕ, ◌+◌, ◌-◌, ◌<◌, ◌≤◌, false, List, [], ◌∷◌, ◌++◌, length, drop, get_or, set, inl, inr, ap, sym, ◌∙◌, subst, arith}
+use Rattle.std.specs.Prelude.{Some, slice_get, nat_lt}
+use Rattle.std.proofs.lemmas.Bool.{cases_eq, cases_lt}
+use Rattle.std.proofs.lemmas.List.{length-set, length_push, length-drop, get_or-set_same, get_or-set_other, set_past}
 use Rattle.std.proofs.lemmas.List.FromFn.{length-map-range_with_len}
 use Rattle.std.proofs.lemmas.Option.{slice_get_within}
 use Rattle.mpc_values.specs.declared.values.Word.{Word}
 use Rattle.mpc_values.specs.declared.collectives.Coll.{Coll}
-use Rattle.mpi_coll.specs.Rooms.{Gathered, Tables, size_in, made_by, place_of, past, fresh, put_in, come_to, IsGathered, IsWhole}
+use Rattle.mpi_coll.specs.Rooms.{Gathered, Tables, size_in, past, fresh, come_to, IsWhole}
 use Rattle.mpi_coll.proofs.Comparisons.{lt_yes, lt_no}
 use Rattle.mpi_coll.proofs.Lists.{count_if, count_by-set, counts_none, counts_below, counts_below_two, slice_get-push_cases, slice_get-set_cases, slice_get-drop_1}
 

@@ -1,6 +1,6 @@
 use Rattle.std.proofs.Common.{◌≡◌, ◌<◌, ◌-◌, Some, None, length, ◌∙◌, sym, subst, ap}
 use Rattle.std.specs.Prelude.{slice_get}
-use Rattle.mpi_coll.specs.Rooms.{Gathered, Tables, differs_in}
+use Rattle.mpi_coll.specs.Rooms.{Tables, differs_in}
 use Rattle.mpi_coll.proofs.Fields.{differs_read}
 use Rattle.mpi_coll.proofs.rooms.Room.differs.Goals as goal
 

@@ -1,4 +1,4 @@
-use Rattle.std.proofs.Common.{◌≡◌, ◌<◌, true, length, set, ◌+◌, ◌∙◌, sym, subst}
+use Rattle.std.proofs.Common.{◌≡◌, ◌<◌, true, length, ◌+◌, ◌∙◌, sym, subst}
 use Rattle.std.proofs.lemmas.List.{length-set}
 use Rattle.mpi_coll.specs.Rooms.{Tables, is_last}
 use Rattle.mpi_coll.proofs.Fields.{fill_whole}

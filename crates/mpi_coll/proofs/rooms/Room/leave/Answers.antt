@@ -1,7 +1,7 @@
-use Rattle.std.proofs.Common.{◌≡◌, ◌<◌, true, length, Some, ◌∙◌, sym, subst, ap, refl}
+use Rattle.std.proofs.Common.{◌≡◌, true, length, Some, ◌∙◌, sym, subst, ap, refl}
 use Rattle.std.specs.Prelude.{slice_get}
 use Rattle.std.proofs.lemmas.Option.{slice_get_read}
-use Rattle.mpi_coll.specs.Rooms.{Tables, size_in, is_due}
+use Rattle.mpi_coll.specs.Rooms.{Tables, is_due}
 use Rattle.mpi_coll.proofs.Fields.{leave_whole, leave_there}
 use Rattle.mpi_coll.proofs.rooms.Room.leave.Goals as goal
 
