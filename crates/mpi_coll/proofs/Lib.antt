@@ -12,3 +12,4 @@ pub mod Tables
 pub mod Telling
 pub mod Beginning
 pub mod Fields
+pub mod Absent

@@ -6,3 +6,4 @@ pub mod Cases
 pub mod Shares
 pub mod Rooms
 pub mod Shown
+pub mod Kept

@@ -6,6 +6,7 @@ mod arrivals;
 mod comparing;
 mod gatherings;
 mod laws;
+mod meetings;
 mod reducing;
 mod results;
 mod rooms;
@@ -16,6 +17,7 @@ pub use arrivals::Arrival;
 pub use laws::{
     arguments_are_looked_at_where_they_count, members_get_their_results, members_meet_in_turn,
 };
+pub use meetings::Meetings;
 pub use steps::tables_follow_the_arrivals;
 
 #[cfg(test)]
