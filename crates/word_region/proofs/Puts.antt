@@ -7,7 +7,7 @@ use Rattle.std.proofs.lemmas.List.Edits.{get_or-remove_below}
 use Rattle.std.proofs.lemmas.List.{places, drop_more, take_more, take-append-drop, set_at, get_or-drop, length-take-le}
 use Rattle.word_region.specs.declared.holes.Hole.{Hole}
 use Rattle.word_region.specs.Places.{is_in}
-use Rattle.word_region.specs.Holes.{is_in_hole, Lies, no_hole, hole_at, JoinsHoles, IsOutside, IsPlace}
+use Rattle.word_region.specs.Holes.{is_in_hole, Lies, no_hole, hole_at, Put, IsOutside, IsPlace}
 use Rattle.word_region.proofs.Laid.{in_range, above_range, in_more, in_both, Parts, join, append_rest, joined_range}
 use Rattle.word_region.proofs.Edits.{split_at, cut_at, in_parts, set_parts}
 
@@ -84,11 +84,6 @@ pub record Goes (xs : List Hole) (k base len high : ℕ) : Type 0 where
   pub until : base + len < high
   pub outside : IsOutside xs base len
   pub place : IsPlace base xs k
-
--- what the new list is
-pub record Put (old new : List Hole) (base len high : ℕ) : Type 0 where
-  pub joins : JoinsHoles old new base len
-  pub laid : Lies 0 new high
 
 module _ (xs : List Hole) (k base len high : ℕ) (goes : Goes xs k base len high) where
   parts_are : take k xs ++ drop k xs ≡ xs

@@ -68,6 +68,11 @@ LeavesHoles old new base len = (p : ℕ) → is_in_hole new p ≡ (is_in_hole ol
 abbrev pub JoinsHoles : List Hole → List Hole → ℕ → ℕ → Type 0
 JoinsHoles old new base len = (p : ℕ) → is_in_hole new p ≡ (is_in_hole old p || is_in base len p)
 
+-- The range is put into the holes, which are all below `high`.
+pub record Put (old new : List Hole) (base len high : ℕ) : Type 0 where
+  pub joins : JoinsHoles old new base len
+  pub laid : Lies 0 new high
+
 -- no place of the range is in a hole
 abbrev pub IsOutside : List Hole → ℕ → ℕ → Type 0
 IsOutside holes base len = (p : ℕ) → base ≤ p → p < base + len → is_in_hole holes p ≡ false

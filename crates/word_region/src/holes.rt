@@ -1,7 +1,7 @@
 //! The holes of a vector of words, by rising base.
 ghost use Rattle.std.specs.Prelude.{◌≡◌, ◌≢◌, true, false, ◌-◌, ◌+◌, ◌^◌, ◌<◌, ◌≤◌, length, slice_set, IfSome, IfNone, IfOk, OnOk, OnErr, vec_capacity, vec_len};
 ghost use Rattle.word_region.specs.Places.{IsFirstFit, Takes};
-ghost use Rattle.word_region.specs.Holes.{Lies, AreLaid, IsFirstWith, IsNoneWith, IsOutside, IsPlace, LeavesHoles, JoinsHoles, hole_at, cells_of};
+ghost use Rattle.word_region.specs.Holes.{Lies, AreLaid, IsFirstWith, IsNoneWith, IsOutside, IsPlace, LeavesHoles, Put, hole_at, cells_of};
 
 use crate::words::{grow, unset};
 use mpc_values::{Memory, Word};
@@ -134,8 +134,7 @@ pub fn add_hole(holes: &mut Vec<Hole>, base: usize, len: usize, end: usize)
     requires within { base + len ≤ end }
     requires outside { IsOutside holes.old.items base len }
     requires room { length holes.old.items < vec_capacity holes.old }
-    ensures joins { JoinsHoles holes.old.items holes.new.items base len }
-    ensures laid { Lies 0 holes.new.items (end + 1) }
+    ensures puts { Put holes.old.items holes.new.items base len (end + 1) }
     ensures count { length holes.new.items ≤ length holes.old.items + 1 }
     ensures capacity { vec_capacity holes.new ≡ vec_capacity holes.old }
 {

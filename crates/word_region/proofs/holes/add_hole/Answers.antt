@@ -2,8 +2,8 @@ use Rattle.std.proofs.Common.{◌≡◌, ◌≢◌, ℕ, ◌+◌, ◌-◌, ◌<�
 use Rattle.std.specs.List.{remove}
 use Rattle.std.proofs.lemmas.List.{get_or_read}
 use Rattle.word_region.specs.declared.holes.Hole.{Hole}
-use Rattle.word_region.specs.Holes.{Lies, IsOutside, IsPlace, no_hole, hole_at}
-use Rattle.word_region.proofs.Puts.{Goes, Put, put_alone, put_before, put_behind, put_both, behind_fits, both_fits}
+use Rattle.word_region.specs.Holes.{Lies, Put, IsOutside, IsPlace, no_hole, hole_at}
+use Rattle.word_region.proofs.Puts.{Goes, put_alone, put_before, put_behind, put_both, behind_fits, both_fits}
 use Rattle.word_region.proofs.holes.add_hole.Goals as goal
 
 -- the place that was found, in the holes themselves
@@ -58,8 +58,8 @@ overflow_add-len-in-false-true c =
     let fits = behind_fits c.args.holes.now.items c.place_of-k.result c.args.base c.args.len (c.args.end + 1) goes behind.0 behind.1 in
     omega (arith, len, fits, c.ranges.end)
 
-pub returns-in-true-true-clause-joins : goal.returns-in-true-true-clause-joins
-returns-in-true-true-clause-joins c =
+pub returns-in-true-true-clause-puts : goal.returns-in-true-true-clause-puts
+returns-in-true-true-clause-puts c =
     let goes = goes_to c.args.holes.now.items c.as_slice.result.now c.place_of-k.result c.args.base c.args.len c.args.end c.as_slice.ensures.value c.requires.laid c.requires.some c.requires.within c.requires.outside c.place_of-k.ensures in
     let before = (ends c.args.holes.now.items c.as_slice-2.result.now c.place_of-k.result c.args.base c.as_slice-2.ensures.value ((c.in-true-true.ensures).yes refl)) in
     let behind = (begins c.args.holes.now.items c.as_slice-3.result.now c.place_of-k.result (c.args.base + c.args.len) c.as_slice-3.ensures.value ((c.in-true-true.ensures').yes refl)) in
@@ -68,68 +68,26 @@ returns-in-true-true-clause-joins c =
     c.lengthen.ensures.items
     ∙ (ap (λ (hs : List Hole). set hs (c.place_of-k.result - 1) (record { base = (hole_at hs (c.place_of-k.result - 1)).base; len = (hole_at hs (c.place_of-k.result - 1)).len + (c.args.len + c.remove-next.result.len) })) c.remove-next.ensures.items
     ∙ ap (λ (h : Hole). set (remove c.args.holes.now.items c.place_of-k.result) (c.place_of-k.result - 1) (record { base = (hole_at (remove c.args.holes.now.items c.place_of-k.result) (c.place_of-k.result - 1)).base; len = (hole_at (remove c.args.holes.now.items c.place_of-k.result) (c.place_of-k.result - 1)).len + (c.args.len + h.len) })) is) in
-    let put = subst (λ hs. Put c.args.holes.now.items hs c.args.base c.args.len (c.args.end + 1)) (sym items) (put_both c.args.holes.now.items c.place_of-k.result c.args.base c.args.len (c.args.end + 1) goes before.0 before.1 behind.0 behind.1) in
-    put.joins
+    subst (λ hs. Put c.args.holes.now.items hs c.args.base c.args.len (c.args.end + 1)) (sym items) (put_both c.args.holes.now.items c.place_of-k.result c.args.base c.args.len (c.args.end + 1) goes before.0 before.1 behind.0 behind.1)
 
-pub returns-in-true-true-clause-laid : goal.returns-in-true-true-clause-laid
-returns-in-true-true-clause-laid c =
-    let goes = goes_to c.args.holes.now.items c.as_slice.result.now c.place_of-k.result c.args.base c.args.len c.args.end c.as_slice.ensures.value c.requires.laid c.requires.some c.requires.within c.requires.outside c.place_of-k.ensures in
-    let before = (ends c.args.holes.now.items c.as_slice-2.result.now c.place_of-k.result c.args.base c.as_slice-2.ensures.value ((c.in-true-true.ensures).yes refl)) in
-    let behind = (begins c.args.holes.now.items c.as_slice-3.result.now c.place_of-k.result (c.args.base + c.args.len) c.as_slice-3.ensures.value ((c.in-true-true.ensures').yes refl)) in
-    let is = get_or_read _ c.place_of-k.result _ behind.0 c.remove-next.ensures.value no_hole in
-    let items : c.lengthen.new.holes.items ≡ set (remove c.args.holes.now.items c.place_of-k.result) (c.place_of-k.result - 1) (record { base = (hole_at (remove c.args.holes.now.items c.place_of-k.result) (c.place_of-k.result - 1)).base; len = (hole_at (remove c.args.holes.now.items c.place_of-k.result) (c.place_of-k.result - 1)).len + (c.args.len + (hole_at c.args.holes.now.items c.place_of-k.result).len) }) =
-    c.lengthen.ensures.items
-    ∙ (ap (λ (hs : List Hole). set hs (c.place_of-k.result - 1) (record { base = (hole_at hs (c.place_of-k.result - 1)).base; len = (hole_at hs (c.place_of-k.result - 1)).len + (c.args.len + c.remove-next.result.len) })) c.remove-next.ensures.items
-    ∙ ap (λ (h : Hole). set (remove c.args.holes.now.items c.place_of-k.result) (c.place_of-k.result - 1) (record { base = (hole_at (remove c.args.holes.now.items c.place_of-k.result) (c.place_of-k.result - 1)).base; len = (hole_at (remove c.args.holes.now.items c.place_of-k.result) (c.place_of-k.result - 1)).len + (c.args.len + h.len) })) is) in
-    let put = subst (λ hs. Put c.args.holes.now.items hs c.args.base c.args.len (c.args.end + 1)) (sym items) (put_both c.args.holes.now.items c.place_of-k.result c.args.base c.args.len (c.args.end + 1) goes before.0 before.1 behind.0 behind.1) in
-    put.laid
-
-pub returns-in-true-false-clause-joins : goal.returns-in-true-false-clause-joins
-returns-in-true-false-clause-joins c =
+pub returns-in-true-false-clause-puts : goal.returns-in-true-false-clause-puts
+returns-in-true-false-clause-puts c =
     let goes = goes_to c.args.holes.now.items c.as_slice.result.now c.place_of-k.result c.args.base c.args.len c.args.end c.as_slice.ensures.value c.requires.laid c.requires.some c.requires.within c.requires.outside c.place_of-k.ensures in
     let before = (ends c.args.holes.now.items c.as_slice-2.result.now c.place_of-k.result c.args.base c.as_slice-2.ensures.value ((c.in-true-false.ensures).yes refl)) in
     let behind = (not_begins c.args.holes.now.items c.as_slice-3.result.now c.place_of-k.result (c.args.base + c.args.len) c.as_slice-3.ensures.value ((c.in-true-false.ensures').no refl)) in
-    let put = subst (λ hs. Put c.args.holes.now.items hs c.args.base c.args.len (c.args.end + 1)) (sym c.lengthen-in-true-false.ensures.items) (put_before c.args.holes.now.items c.place_of-k.result c.args.base c.args.len (c.args.end + 1) goes before.0 before.1 behind) in
-    put.joins
+    subst (λ hs. Put c.args.holes.now.items hs c.args.base c.args.len (c.args.end + 1)) (sym c.lengthen-in-true-false.ensures.items) (put_before c.args.holes.now.items c.place_of-k.result c.args.base c.args.len (c.args.end + 1) goes before.0 before.1 behind)
 
-pub returns-in-true-false-clause-laid : goal.returns-in-true-false-clause-laid
-returns-in-true-false-clause-laid c =
-    let goes = goes_to c.args.holes.now.items c.as_slice.result.now c.place_of-k.result c.args.base c.args.len c.args.end c.as_slice.ensures.value c.requires.laid c.requires.some c.requires.within c.requires.outside c.place_of-k.ensures in
-    let before = (ends c.args.holes.now.items c.as_slice-2.result.now c.place_of-k.result c.args.base c.as_slice-2.ensures.value ((c.in-true-false.ensures).yes refl)) in
-    let behind = (not_begins c.args.holes.now.items c.as_slice-3.result.now c.place_of-k.result (c.args.base + c.args.len) c.as_slice-3.ensures.value ((c.in-true-false.ensures').no refl)) in
-    let put = subst (λ hs. Put c.args.holes.now.items hs c.args.base c.args.len (c.args.end + 1)) (sym c.lengthen-in-true-false.ensures.items) (put_before c.args.holes.now.items c.place_of-k.result c.args.base c.args.len (c.args.end + 1) goes before.0 before.1 behind) in
-    put.laid
-
-pub returns-in-false-true-clause-joins : goal.returns-in-false-true-clause-joins
-returns-in-false-true-clause-joins c =
+pub returns-in-false-true-clause-puts : goal.returns-in-false-true-clause-puts
+returns-in-false-true-clause-puts c =
     let goes = goes_to c.args.holes.now.items c.as_slice.result.now c.place_of-k.result c.args.base c.args.len c.args.end c.as_slice.ensures.value c.requires.laid c.requires.some c.requires.within c.requires.outside c.place_of-k.ensures in
     let before = (not_ends c.args.holes.now.items c.as_slice-2.result.now c.place_of-k.result c.args.base c.as_slice-2.ensures.value ((c.in-false-true.ensures).no refl)) in
     let behind = (begins c.args.holes.now.items c.as_slice-3.result.now c.place_of-k.result (c.args.base + c.args.len) c.as_slice-3.ensures.value ((c.in-false-true.ensures').yes refl)) in
     let is = get_or_read _ c.place_of-k.result _ behind.0 c.index.ensures no_hole in
-    let put = subst (λ (h : Hole). Put c.args.holes.now.items (set c.args.holes.now.items c.place_of-k.result (record { base = c.args.base; len = c.args.len + h.len })) c.args.base c.args.len (c.args.end + 1)) (sym is) (put_behind c.args.holes.now.items c.place_of-k.result c.args.base c.args.len (c.args.end + 1) goes behind.0 behind.1 before) in
-    put.joins
+    subst (λ (h : Hole). Put c.args.holes.now.items (set c.args.holes.now.items c.place_of-k.result (record { base = c.args.base; len = c.args.len + h.len })) c.args.base c.args.len (c.args.end + 1)) (sym is) (put_behind c.args.holes.now.items c.place_of-k.result c.args.base c.args.len (c.args.end + 1) goes behind.0 behind.1 before)
 
-pub returns-in-false-true-clause-laid : goal.returns-in-false-true-clause-laid
-returns-in-false-true-clause-laid c =
-    let goes = goes_to c.args.holes.now.items c.as_slice.result.now c.place_of-k.result c.args.base c.args.len c.args.end c.as_slice.ensures.value c.requires.laid c.requires.some c.requires.within c.requires.outside c.place_of-k.ensures in
-    let before = (not_ends c.args.holes.now.items c.as_slice-2.result.now c.place_of-k.result c.args.base c.as_slice-2.ensures.value ((c.in-false-true.ensures).no refl)) in
-    let behind = (begins c.args.holes.now.items c.as_slice-3.result.now c.place_of-k.result (c.args.base + c.args.len) c.as_slice-3.ensures.value ((c.in-false-true.ensures').yes refl)) in
-    let is = get_or_read _ c.place_of-k.result _ behind.0 c.index.ensures no_hole in
-    let put = subst (λ (h : Hole). Put c.args.holes.now.items (set c.args.holes.now.items c.place_of-k.result (record { base = c.args.base; len = c.args.len + h.len })) c.args.base c.args.len (c.args.end + 1)) (sym is) (put_behind c.args.holes.now.items c.place_of-k.result c.args.base c.args.len (c.args.end + 1) goes behind.0 behind.1 before) in
-    put.laid
-
-pub returns-in-Ok-clause-joins : goal.returns-in-Ok-clause-joins
-returns-in-Ok-clause-joins c =
+pub returns-in-Ok-clause-puts : goal.returns-in-Ok-clause-puts
+returns-in-Ok-clause-puts c =
     let goes = goes_to c.args.holes.now.items c.as_slice.result.now c.place_of-k.result c.args.base c.args.len c.args.end c.as_slice.ensures.value c.requires.laid c.requires.some c.requires.within c.requires.outside c.place_of-k.ensures in
     let before = (not_ends c.args.holes.now.items c.as_slice-2.result.now c.place_of-k.result c.args.base c.as_slice-2.ensures.value ((c.in-false-false.ensures).no refl)) in
     let behind = (not_begins c.args.holes.now.items c.as_slice-3.result.now c.place_of-k.result (c.args.base + c.args.len) c.as_slice-3.ensures.value ((c.in-false-false.ensures').no refl)) in
-    let put = subst (λ hs. Put c.args.holes.now.items hs c.args.base c.args.len (c.args.end + 1)) (sym c.in-Ok.ensures.items) (put_alone c.args.holes.now.items c.place_of-k.result c.args.base c.args.len (c.args.end + 1) goes before behind) in
-    put.joins
-
-pub returns-in-Ok-clause-laid : goal.returns-in-Ok-clause-laid
-returns-in-Ok-clause-laid c =
-    let goes = goes_to c.args.holes.now.items c.as_slice.result.now c.place_of-k.result c.args.base c.args.len c.args.end c.as_slice.ensures.value c.requires.laid c.requires.some c.requires.within c.requires.outside c.place_of-k.ensures in
-    let before = (not_ends c.args.holes.now.items c.as_slice-2.result.now c.place_of-k.result c.args.base c.as_slice-2.ensures.value ((c.in-false-false.ensures).no refl)) in
-    let behind = (not_begins c.args.holes.now.items c.as_slice-3.result.now c.place_of-k.result (c.args.base + c.args.len) c.as_slice-3.ensures.value ((c.in-false-false.ensures').no refl)) in
-    let put = subst (λ hs. Put c.args.holes.now.items hs c.args.base c.args.len (c.args.end + 1)) (sym c.in-Ok.ensures.items) (put_alone c.args.holes.now.items c.place_of-k.result c.args.base c.args.len (c.args.end + 1) goes before behind) in
-    put.laid
+    subst (λ hs. Put c.args.holes.now.items hs c.args.base c.args.len (c.args.end + 1)) (sym c.in-Ok.ensures.items) (put_alone c.args.holes.now.items c.place_of-k.result c.args.base c.args.len (c.args.end + 1) goes before behind)

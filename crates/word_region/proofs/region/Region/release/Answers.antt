@@ -25,7 +25,7 @@ overflow_sub-self-2 c =
     let within = held_within c.self.inside.words.items c.self.inside.holes.items c.args.base c.args.len c.requires.some held in
     let ok = c.self.inside.words.ok in
     let less = held_less (cells_of c.self.inside.words.items c.self.inside.holes.items) (cells_of c.self.inside.words.items c.add_hole.new.holes.items) c.args.base c.args.len
-    (let n = length-cells c.self.inside.holes.items 0 c.self.inside.words.items in omega (arith, within, n)) (releases c.self.inside.words.items c.self.inside.holes.items c.add_hole.new.holes.items c.args.base c.args.len c.add_hole.ensures.joins) held in
+    (let n = length-cells c.self.inside.holes.items 0 c.self.inside.words.items in omega (arith, within, n)) (releases c.self.inside.words.items c.self.inside.holes.items c.add_hole.new.holes.items c.args.base c.args.len c.add_hole.ensures.puts.joins) held in
     omega (arith, less, c.self.invariant.held)
 
 pub invariant_of-self : goal.invariant_of-self
@@ -34,9 +34,9 @@ invariant_of-self c =
     let within = held_within c.self.inside.words.items c.self.inside.holes.items c.args.base c.args.len c.requires.some held in
     let ok = c.self.inside.words.ok in
     let less = held_less (cells_of c.self.inside.words.items c.self.inside.holes.items) (cells_of c.self.inside.words.items c.add_hole.new.holes.items) c.args.base c.args.len
-    (let n = length-cells c.self.inside.holes.items 0 c.self.inside.words.items in omega (arith, within, n)) (releases c.self.inside.words.items c.self.inside.holes.items c.add_hole.new.holes.items c.args.base c.args.len c.add_hole.ensures.joins) held in
+    (let n = length-cells c.self.inside.holes.items 0 c.self.inside.words.items in omega (arith, within, n)) (releases c.self.inside.words.items c.self.inside.holes.items c.add_hole.new.holes.items c.args.base c.args.len c.add_hole.ensures.puts.joins) held in
     record {
-      laid = subst (λ n. Lies 0 c.add_hole.new.holes.items (n + 1)) (let e : c.len-end.result ≡ length c.self.inside.words.items = omega (arith, ok.0, c.len-end.ensures) in e) c.add_hole.ensures.laid;
+      laid = subst (λ n. Lies 0 c.add_hole.new.holes.items (n + 1)) (let e : c.len-end.result ≡ length c.self.inside.words.items = omega (arith, ok.0, c.len-end.ensures) in e) c.add_hole.ensures.puts.laid;
       held = omega (arith, less, c.self.invariant.held);
       room = let taken : 0 < c.self.inside.ranges = subst (λ (v : Places). 0 < v.ranges) (sym c.self.view_is) c.requires.taken in
           let room = c.self.invariant.room in omega (arith, c.add_hole.ensures.count, c.add_hole.ensures.capacity);
@@ -45,4 +45,4 @@ invariant_of-self c =
 pub returns-clause-releases : goal.returns-clause-releases
 returns-clause-releases c =
     subst (λ (v : Places). Releases v.cells (cells_of c.self.inside.words.items c.add_hole.new.holes.items) c.args.base c.args.len) c.self.view_is
-    (releases c.self.inside.words.items c.self.inside.holes.items c.add_hole.new.holes.items c.args.base c.args.len c.add_hole.ensures.joins)
+    (releases c.self.inside.words.items c.self.inside.holes.items c.add_hole.new.holes.items c.args.base c.args.len c.add_hole.ensures.puts.joins)
