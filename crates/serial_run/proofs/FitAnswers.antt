@@ -20,10 +20,10 @@ use Rattle.serial_model.specs.declared.records.Setup.{Setup}
 use Rattle.serial_model.specs.World.{World, TaskState, owner_of}
 use Rattle.serial_model.specs.Go.{Act, Does, Fails, Unbuilt, act, accessed, print, objects_of, quota, output_limit, calls_limit, count_of, Stays, acted, fails, visited, go, go_next, go_task, has_ended, has_finished, answers_of}
 use Rattle.serial_model.specs.Run.{world_of}
-use Rattle.node_core.specs.declared.node.Reply.{Reply}
-use Rattle.node_core.specs.declared.node.Reply.TheVariants.{Did as DidReply, Stop}
-use Rattle.node_core.specs.Visits.{reply_of}
-use Rattle.node_core.specs.VisitLaws.{AsksNext, visit_reply}
+use Rattle.serial_node.specs.declared.node.Reply.{Reply}
+use Rattle.serial_node.specs.declared.node.Reply.TheVariants.{Did as DidReply, Stop}
+use Rattle.serial_node.specs.Visits.{reply_of}
+use Rattle.serial_node.specs.VisitLaws.{AsksNext, visit_reply}
 use Rattle.serial_model.specs.declared.records.Setup.{Setup}
 use Rattle.mpc_base.specs.declared.journals.Entry.{Entry}
 

@@ -15,10 +15,10 @@ use Rattle.c_compile.proofs.Plain.{plain_asks}
 use Rattle.serial_model.specs.declared.records.Setup.{Setup}
 use Rattle.serial_model.specs.Go.{has_ended, answers_of}
 use Rattle.serial_model.specs.Run.{world_of}
-use Rattle.node_core.specs.Held.{Held}
-use Rattle.node_core.specs.declared.node.Reply.TheVariants.{Did, Stop}
-use Rattle.node_core.specs.VisitLaws.{AsksNext, IsLegal, visited_entries, visit_reply}
-use Rattle.node_core.proofs.Leads.{visit_laws, run_laws}
+use Rattle.serial_node.specs.Held.{Held}
+use Rattle.serial_node.specs.declared.node.Reply.TheVariants.{Did, Stop}
+use Rattle.serial_node.specs.VisitLaws.{AsksNext, IsLegal, visited_entries, visit_reply}
+use Rattle.serial_node.proofs.Leads.{visit_laws, run_laws}
 use Rattle.task_vm.specs.Tasks.{Tasked, HasHad, IsAsking, ends_task, Awaits}
 use Rattle.task_vm.specs.Wanting.{IsWanting}
 use Rattle.task_vm.specs.declared.states.Want.{Want}

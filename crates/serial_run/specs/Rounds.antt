@@ -6,7 +6,7 @@ use Rattle.c_compile.specs.Correct.{Behaves}
 use Rattle.c_compile.specs.Plain.{is_plain}
 use Rattle.serial_model.specs.Go.{has_ended, answers_of}
 use Rattle.serial_model.specs.Run.{world_of}
-use Rattle.node_core.specs.Held.{Held}
+use Rattle.serial_node.specs.Held.{Held}
 use Rattle.task_vm.specs.Tasks.{Tasked, HasHad, IsAsking}
 
 -- The task runs the node's program, which is plain; it has had the answers that the run holds for it, and the run goes on.

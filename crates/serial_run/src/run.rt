@@ -11,7 +11,7 @@ ghost use Rattle.serial_run.specs.Rounds.{Together, Asking, Turned};
 use c_code::Code;
 use c_compile::compile;
 use mpc_base::{Call, Memory};
-use node_core::{Node, Reply};
+use serial_node::{Node, Reply};
 use serial_model::{RunRecord, Setup};
 use std::alloc::Global;
 use std::sync::Arc;
