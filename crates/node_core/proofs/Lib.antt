@@ -1,0 +1,12 @@
+pub mod Places
+pub mod Members
+pub mod Lifts
+pub mod OwnLifts
+pub mod GroupLifts
+pub mod All
+pub mod Stepping
+pub mod Going
+pub mod Visiting
+pub mod Beginnings
+pub mod Enders
+pub mod AskingRuns

@@ -1,0 +1,12 @@
+pub mod Each
+pub mod CommsSeen
+pub mod Built
+pub mod Seen
+pub mod Stands
+pub mod Steps
+pub mod Starts
+pub mod Held
+pub mod HeldCoding
+pub mod IsRun
+pub mod Keeps
+pub mod Visits
