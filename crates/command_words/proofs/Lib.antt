@@ -1,0 +1,3 @@
+mod Parsed
+mod Pieces
+mod Taken
