@@ -1,0 +1,9 @@
+pub mod Sorting
+pub mod Colours
+pub mod Orders
+pub mod Groups
+pub mod Numbering
+pub mod Ranges
+pub mod Keeping
+pub mod Places
+pub mod NewNumbers

@@ -36,6 +36,14 @@ impl Members {
     }
 }
 
+/// What is kept of a communicator (MPI 3.1, section 6.4): its tasks by rank, and whether it lives. A freed one keeps its
+/// tasks, since a call that was made before may still ask for a rank.
+#[derive(Debug, Drop)]
+pub struct Seen {
+    pub members: Members,
+    pub lives: bool,
+}
+
 /// A communicator (MPI 3.1, section 6.4): its tasks by rank, whether it lives, and which meeting of
 /// which communicator made it. Those of MPI_COMM_WORLD are 0: nothing made it.
 #[derive(Debug, Drop)]
