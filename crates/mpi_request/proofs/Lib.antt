@@ -1,0 +1,10 @@
+mod Entries
+mod Counted
+mod Listed
+mod Kept
+mod Seen
+mod Starts
+mod Ends
+mod Matches
+mod Begins
+mod Renames

@@ -2,3 +2,8 @@ pub mod Messages
 pub mod Requests
 pub mod Completing
 pub mod Pending
+pub mod Started
+pub mod Owners
+pub mod Active
+pub mod Steps
+pub mod Shown
