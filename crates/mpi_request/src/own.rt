@@ -117,3 +117,13 @@ impl Own {
         }
     }
 }
+
+#[cfg(test)]
+impl Own {
+    /// The number that the next request gets.
+    pub fn next_number(&self) -> u32
+        ensures { result ≡ self.now.made + 1 }
+    {
+        self.made + 1
+    }
+}

@@ -139,3 +139,21 @@ impl Requests {
         self.tasks[task as usize].count()
     }
 }
+
+#[cfg(test)]
+impl Requests {
+    /// How many tasks there are.
+    pub fn tasks(&self) -> usize
+        ensures { result ≡ length self.now.tasks }
+    {
+        self.tasks.len()
+    }
+
+    /// The number that a task's next request gets.
+    pub fn next_number(&self, task: u32) -> u32
+        requires { task < length self.now.tasks }
+        ensures { result ≡ (own_at self.now task).made + 1 }
+    {
+        self.tasks[task as usize].next_number()
+    }
+}
