@@ -17,7 +17,7 @@ use Rattle.node_core.specs.IsRun.{IsRun}
 use Rattle.run_model.specs.Start.{start, first_task, first_course}
 use Rattle.node_core.specs.declared.parts.TaskPart.{TaskPart}
 use Rattle.node_core.specs.declared.parts.State.{State}
-use Rattle.node_core.specs.CommsSeen.{seen_all}
+use Rattle.mpi_comm.specs.Seen.{seen_all}
 use Rattle.node_core.specs.Each.{Each}
 use Rattle.node_core.specs.Stands.{PartStands, NoRequests, Stands, course_in, courses_in}
 use Rattle.node_core.specs.Starts.{IsFirst}

@@ -17,7 +17,8 @@ use Rattle.run_model.specs.TaskCalls.{rank, size, abort}
 use Rattle.run_model.specs.Act.{act}
 use Rattle.node_core.specs.declared.parts.OwnPart.{OwnPart}
 use Rattle.node_core.specs.declared.parts.Shared.{Shared}
-use Rattle.node_core.specs.CommsSeen.{view_seen, seen_all}
+use Rattle.mpi_comm.specs.Seen.{seen_all}
+use Rattle.node_core.specs.CommsSeen.{view_seen}
 use Rattle.node_core.specs.Seen.{answered, rank_answer, size_answer, code_answer}
 use Rattle.node_core.specs.Built.{out_of}
 use Rattle.node_core.specs.Stands.{Serves, Follows}

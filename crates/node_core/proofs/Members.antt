@@ -1,4 +1,4 @@
--- What a task sees of a communicator is what the definitions say, and a rank in MPI_COMM_WORLD is the task's number.
+-- What a task sees of a communicator is what the definitions say.
 use Rattle.std.proofs.Common.{◌≡◌, ◌≢◌, ◌<◌, ◌≤◌, ◌+◌, ◌-◌, ◌==◌, ℕ, zero, suc, Bool, true, false, if◌then◌else◌, List, [], ◌∷◌, ◌++◌, map, length, slice_get, position, Option, Some, None, refl, sym, ap, ◌∙◌, arith, add-one}
 use Rattle.std.specs.List.{range_with_len}
 use Rattle.std.specs.Option.{option_map}
@@ -7,7 +7,8 @@ use Rattle.mpc_values.specs.declared.values.Word.{Word}
 use Rattle.mpc_values.specs.declared.values.Word.TheVariants.{Undef, Int, Null, Ptr, Comm, Req}
 use Rattle.mpi_comm.specs.declared.communicators.Communicator.{Communicator}
 use Rattle.mpi_comm.specs.Communicators.{comm_at, living, group_at, group_in, group_of, view_of}
-use Rattle.node_core.specs.CommsSeen.{Seen, seen_of, seen_all, world_of, seen_at, living_seen, rank_among, size_among, rank_in, size_in, view_with, view_seen}
+use Rattle.mpi_comm.specs.Seen.{seen_of, seen_all, seen_at, alive, rank_in, size_in}
+use Rattle.node_core.specs.CommsSeen.{view_with, view_seen}
 
 seen_at_is : (comms : List Communicator) (number : ℕ) → seen_at (seen_all comms) number ≡ option_map seen_of (comm_at comms number)
 seen_at_is comms zero = refl
@@ -17,7 +18,7 @@ living_if : (comm : Communicator) (b : Bool) → (if b then Some (seen_of comm) 
 living_if comm true = refl
 living_if comm false = refl
 
-living_is : (c : Option Communicator) → living_seen (option_map seen_of c) ≡ option_map seen_of (living c)
+living_is : (c : Option Communicator) → alive (option_map seen_of c) ≡ option_map seen_of (living c)
 living_is None = refl
 living_is (Some comm) = living_if comm comm.lives
 
@@ -25,7 +26,7 @@ member_is : (number : ℕ) (members : List ℕ) (rank : Option ℕ) → option_m
 member_is number members None = refl
 member_is number members (Some rank) = refl
 
-found_is : (task number : ℕ) (c : Option Communicator) → option_map view_of (group_in task number c) ≡ view_with number (rank_among task (option_map seen_of c)) (size_among (option_map seen_of c))
+found_is : (task number : ℕ) (c : Option Communicator) → option_map view_of (group_in task number c) ≡ view_with number (rank_in task (option_map seen_of c)) (size_in (option_map seen_of c))
 found_is task number None = refl
 found_is task number (Some comm) = member_is number comm.members (position (λ member. member == task) comm.members)
 
@@ -33,32 +34,9 @@ found_is task number (Some comm) = member_is number comm.members (position (λ m
 pub view_is : (comms : List Communicator) (task : ℕ) (word : Word) → option_map view_of (group_of comms task word) ≡ view_seen (seen_all comms) task word
 view_is comms task (Comm number) =
     found_is task number (living (comm_at comms number))
-    ∙ ap (λ s. view_with number (rank_among task s) (size_among s)) (sym (ap living_seen (seen_at_is comms number) ∙ living_is (comm_at comms number)))
+    ∙ ap (λ s. view_with number (rank_in task s) (size_in s)) (sym (ap alive (seen_at_is comms number) ∙ living_is (comm_at comms number)))
 view_is comms task Undef = refl
 view_is comms task (Int z) = refl
 view_is comms task Null = refl
 view_is comms task (Ptr obj at) = refl
 view_is comms task (Req req) = refl
-
--- only the one communicator has members
-pub rank_other : (members : List ℕ) (comm task : ℕ) → comm ≢ 1 → None ≡ rank_in (world_of members) comm task
-rank_other members zero task other = refl
-rank_other members (suc zero) task other = absurd (other refl)
-rank_other members (suc (suc n)) task other = refl
-
-pub size_other : (members : List ℕ) (comm : ℕ) → comm ≢ 1 → None ≡ size_in (world_of members) comm
-size_other members zero other = refl
-size_other members (suc zero) other = absurd (other refl)
-size_other members (suc (suc n)) other = refl
-
-pub rank_one : (members looked : List ℕ) (comm task : ℕ) (place : Option ℕ) → comm ≡ 1 → looked ≡ members → place ≡ position (λ member. member == task) looked → place ≡ rank_in (world_of members) comm task
-rank_one members looked comm task place one same is = is ∙ ap (λ l. position (λ member. member == task) l) same ∙ ap (λ n. rank_in (world_of members) n task) (sym one)
-
-range_from : (a n : ℕ) → range_with_len a (suc n) ≡ range_with_len a n ++ (a + n) ∷ []
-range_from a zero = ap (λ m. m ∷ []) (omega arith)
-range_from a (suc n) =
-    ap (λ l. a ∷ l) (range_from (a + 1) n ∙ ap (λ m. range_with_len (a + 1) n ++ m ∷ []) (omega arith))
-
--- the numbers from 0 on, and one more
-pub range_next : (n : ℕ) → range_with_len 0 (n + 1) ≡ range_with_len 0 n ++ n ∷ []
-range_next n = ap (range_with_len 0) (add-one n) ∙ range_from 0 n ∙ ap (λ m. range_with_len 0 n ++ m ∷ []) (omega arith)

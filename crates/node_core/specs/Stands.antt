@@ -12,7 +12,7 @@ use Rattle.node_core.specs.declared.parts.TaskPart.{TaskPart}
 use Rattle.node_core.specs.declared.parts.Matching.{Matching}
 use Rattle.node_core.specs.declared.parts.Shared.{Shared}
 use Rattle.node_core.specs.declared.parts.State.{State}
-use Rattle.node_core.specs.CommsSeen.{seen_all}
+use Rattle.mpi_comm.specs.Seen.{seen_all}
 use Rattle.node_core.specs.Each.{Each}
 
 -- a task's own part stands for what the core keeps of the task

@@ -5,9 +5,9 @@ ghost use Rattle.mpi_comm.specs.declared.communicators.View.{View as TheView};
 ghost use Rattle.node_core.specs.Seen.{answered, answer_by, rank_answer, size_answer, code_answer};
 ghost use Rattle.node_core.specs.CommsSeen.{view_seen};
 
-use crate::comms::{Comms, view_of};
+use crate::comms::view_of;
 use mpc_base::{Answer, Fault, Word};
-use mpi_comm::View;
+use mpi_comm::{Comms, View};
 use run_model::Phase;
 
 fn member(phase: Phase, comms: &Comms, task: u32, comm: Word) -> Result<View, Fault>

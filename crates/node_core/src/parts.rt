@@ -1,6 +1,6 @@
 //! What stands of a run, by parts: the world of the definitions, without the lists that only grow.
 
-use crate::comms::Comms;
+use mpi_comm::Comms;
 use run_model::{Course, Last, Phase};
 
 /// What stands of a task, beside how far it has come.

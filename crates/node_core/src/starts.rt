@@ -6,9 +6,9 @@ ghost use Rattle.node_core.specs.Stands.{Stands};
 ghost use Rattle.node_core.specs.Starts.{IsFirst};
 ghost use Rattle.node_core.specs.Steps.{AllFit};
 
-use crate::comms::Comms;
 use crate::parts::{Matching, OwnPart, Shared, State, TaskPart};
 use mpc_base::Memory;
+use mpi_comm::Comms;
 use run_model::{Course, Phase};
 use std::alloc::Global;
 
