@@ -26,13 +26,14 @@ fn expect_living(rt: &impl Abort, comms: &Comms, comm: u32, size: u32)
 
 /// That the communicator lives and has these members by rank.
 fn expect_members(rt: &impl Abort, comms: &Comms, comm: u32, members: &[u32]) {
-    assert_eq!(rt; comms.size(comm), Some(members.len() as u32));
-    for (rank, task) in members.iter().enumerate() {
-        assert_eq!(rt; comms.member(comm, rank as u32), Some(*task));
-        assert_eq!(rt; comms.rank_of(comm, *task), Some(rank as u32));
-        assert_eq!(rt; comms.old_rank(comm, *task), Some(rank as u32));
+    let size = u32::try_from(members.len()).expect(rt, "there are few members");
+    assert_eq!(rt; comms.size(comm), Some(size));
+    for (rank, task) in (0..size).zip(members.iter()) {
+        assert_eq!(rt; comms.member(comm, rank), Some(*task));
+        assert_eq!(rt; comms.rank_of(comm, *task), Some(rank));
+        assert_eq!(rt; comms.old_rank(comm, *task), Some(rank));
     }
-    assert_eq!(rt; comms.member(comm, members.len() as u32), None);
+    assert_eq!(rt; comms.member(comm, size), None);
 }
 
 #[test]
