@@ -1,16 +1,17 @@
 //! The heap: rows over a region.
-ghost use Rattle.std.specs.Prelude.{◌≡◌, ◌≢◌, ℕ, ◌+◌, ◌<◌, ◌≤◌, ◌↔◌, [], true, not, IsTrue, length, replicate, slice_get, Some, None, is_some, IfOk, OnErr, OnOk, MatchOption, IfSome};
+ghost use Rattle.std.specs.Prelude.{◌≡◌, ◌≢◌, ℕ, ◌+◌, ◌<◌, ◌≤◌, ◌↔◌, [], true, false, not, IsTrue, length, replicate, slice_get, Some, None, is_some, IfOk, OnErr, OnOk, MatchOption, IfSome, IsSomeAnd};
 ghost use Rattle.mpc_values.specs.declared.values.Word.TheVariants.{Undef};
 ghost use Rattle.mpc_values.specs.declared.values.Obj.{Obj};
 ghost use Rattle.mpc_values.specs.declared.owners.Owner.{Owner};
 ghost use Rattle.memory_model.specs.Memory.{Object};
 ghost use Rattle.memory_model.specs.Marks.{barred_to_loads, barred_to_stores, is_some_place};
 ghost use Rattle.memory_model.specs.Access.{with_word};
+ghost use Rattle.block_table.specs.declared.rows.Mark.TheVariants.{Free};
 ghost use Rattle.block_table.specs.Rows.{live, IsLive, IsNamed, AreMarked, mark_at, rows_of, may_send, is_free, is_send, is_receive, with_send, without_send, with_receive, without_receive};
 ghost use Rattle.word_region.specs.Places.{IsFirstFit};
 ghost use Rattle.object_heap.specs.Layout.{row_of, IsSound, HasPlaces};
 ghost use Rattle.object_heap.specs.Objects.{key_named, object_at, object_in, span_words, with_words};
-ghost use Rattle.object_heap.specs.Marks.{marks_in, KeepsMarks, Remarks};
+ghost use Rattle.object_heap.specs.Marks.{mark_of, marks_in, KeepsMarks, Remarks};
 ghost use Rattle.object_heap.specs.Copies.{IsOneCopy, KeepsCopies, GainsCopy, LosesCopy, copy_words};
 ghost use Rattle.object_heap.specs.Changes.{Puts, Edits, KeepsObjects, KeepsSpans, KeepsOtherSpans, Adds, Closes, IsAsBefore, base_of};
 ghost use Rattle.object_heap.specs.Maps.{MapAgrees};
@@ -47,7 +48,9 @@ impl Model for Heap {
 impl Heap {
     /// A heap without objects and copies. It takes no memory.
     pub fn new(alloc: Global) -> Heap
-        ensures { result ≡ record { rows = []; cells = []; copies = 0 } }
+        ensures layout { result ≡ record { rows = []; cells = []; copies = 0 } }
+        ensures objects { (owner : Owner) (obj : Obj) → object_in result owner obj ≡ None }
+        ensures marks { (owner : Owner) (obj : Obj) (p : ℕ) → mark_of result owner obj p ≡ Free }
     {
         Heap {
             region: Region::new(alloc),
@@ -107,8 +110,10 @@ impl Heap {
         requires { is_some (live self.now.rows key) ≡ true }
         ensures row { Some result ≡ row_of self.now key }
         ensures named { IsNamed self.now.rows key result.owner result.obj }
-        ensures object { (object : Object) → object_in self.now result.owner result.obj ≡ Some object → (object.kind ≡ result.kind) × (length object.words ≡ result.len) }
-        ensures lives { is_some (object_in self.now result.owner result.obj) ≡ true }
+        ensures object { (owner : Owner) (obj : Obj) → IsNamed self.now.rows key owner obj →
+            IsSomeAnd (object_in self.now owner obj) (λ object. (object.kind ≡ result.kind) × (length object.words ≡ result.len)) }
+        ensures place { (at : ℕ) → at < result.len → IsLive self.now.rows key (λ row. at < row.len) }
+        ensures places { (at len : ℕ) → at + len ≤ result.len → IsLive self.now.rows key (λ row. at + len ≤ row.len) }
     {
         self.table.row(key)
     }
@@ -137,7 +142,8 @@ impl Heap {
     /// Whether a receive has one of some places.
     pub fn has_receive(&self, key: usize, at: u32, len: u32) -> bool
         requires { IsLive self.now.rows key (λ row. at + len ≤ row.len) }
-        ensures { (owner : Owner) (obj : Obj) → IsNamed self.now.rows key owner obj → result ≡ is_some_place (barred_to_loads (marks_in self.now)) owner obj at len }
+        ensures some { (owner : Owner) (obj : Obj) → IsNamed self.now.rows key owner obj → result ≡ is_some_place (barred_to_loads (marks_in self.now)) owner obj at len }
+        ensures none { result ≡ false → AreMarked self.now.rows key at len (λ mark. not (is_receive mark)) }
     {
         (at..at + len).any(|place| self.table.mark(key, place) == Mark::Receive)
     }
@@ -145,7 +151,8 @@ impl Heap {
     /// Whether a send or a receive has one of some places.
     pub fn is_marked(&self, key: usize, at: u32, len: u32) -> bool
         requires { IsLive self.now.rows key (λ row. at + len ≤ row.len) }
-        ensures { (owner : Owner) (obj : Obj) → IsNamed self.now.rows key owner obj → result ≡ is_some_place (barred_to_stores (marks_in self.now)) owner obj at len }
+        ensures some { (owner : Owner) (obj : Obj) → IsNamed self.now.rows key owner obj → result ≡ is_some_place (barred_to_stores (marks_in self.now)) owner obj at len }
+        ensures none { result ≡ false → AreMarked self.now.rows key at len is_free }
     {
         (at..at + len).any(|place| self.table.mark(key, place) != Mark::Free)
     }
