@@ -1,0 +1,5 @@
+pub mod Words
+pub mod Names
+pub mod Rows
+pub mod Heaps
+pub mod Copies
