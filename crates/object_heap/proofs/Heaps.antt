@@ -15,10 +15,10 @@ use Rattle.block_table.specs.Index.{IsSame}
 use Rattle.block_table.proofs.Names.{same_cases}
 use Rattle.word_region.specs.Places.{cell, is_in, IsHeld}
 use Rattle.object_heap.specs.Layout.{Layout, row_of, is_in_row, IsSound, HasPlaces, IsSpan}
-use Rattle.object_heap.specs.Objects.{word_at, words_from, object_by, object_at, object_where, object_in, key_named, Shows}
+use Rattle.object_heap.specs.Objects.{word_at, words_from, object_by, object_at, object_where, object_in, key_named, Shows, part, span_words}
 use Rattle.object_heap.specs.Marks.{mark_of, mark_where, KeepsMarks, Remarks}
-use Rattle.object_heap.specs.Changes.{Puts, Edits, KeepsObjects, KeepsSpans, KeepsOtherSpans}
-use Rattle.object_heap.proofs.Words.{in_range, above_range, same_words}
+use Rattle.object_heap.specs.Changes.{Puts, Edits, KeepsObjects, KeepsSpans, KeepsOtherSpans, base_in, base_of}
+use Rattle.object_heap.proofs.Words.{in_range, above_range, same_words, part_words, length_words}
 use Rattle.object_heap.proofs.Names.{first_key, no_key, name_cases, named_by_row, same_key_named, key_owner, key_obj}
 use Rattle.object_heap.proofs.Rows.{live_row, row_live, live_at, one_row, no_row}
 
@@ -257,3 +257,31 @@ shows_ended old new m owner obj shows changed other another = elim (same_cases o
   | inr differs ↦
       read_without_other m owner other obj another (differ other owner another obj differs) ∙ (shows other another ∙ sym (changed.others other another differs))
 ]
+
+-- the words of a span, and how many
+pub words_named : (h : Layout) (span : Span) (owner : Owner) (obj : Obj) → IsNamedOnce h.rows → IsSpan h span owner obj → span_words h span ≡ part (object_in h owner obj) span.at span.len
+words_named h span owner obj once good = ap (λ o. part o span.at span.len) (sym (object_named h span.key owner obj once good.named))
+
+-- the row of a span
+pub span_row : (h : Layout) (span : Span) → HasPlaces h span → (row : Row) × (row_of h span.key ≡ Some row) × (span.at + span.len ≤ row.len)
+span_row h span good = live_row (λ row. span.at + span.len ≤ row.len) (live h.rows span.key) good.within
+
+-- the words of a span stand where its row says
+pub span_words_are : (h : Layout) (span : Span) (row : Row) → row_of h span.key ≡ Some row → span.at + span.len ≤ row.len → span_words h span ≡ words_from h.cells (row.base + span.at) span.len
+span_words_are h span row is within =
+    ap (λ o. part o span.at span.len) (object_of_row h span.key row is) ∙ part_words h.cells row.base row.len span.at span.len within
+
+pub length_span : (h : Layout) (span : Span) → HasPlaces h span → length (span_words h span) ≡ span.len
+length_span h span good =
+    let row = span_row h span good in
+    ap length (span_words_are h span row.0 row.1 row.2) ∙ length_words h.cells (row.0.base + span.at) span.len
+
+pub base_is : (h : Layout) (key : ℕ) (row : Row) → row_of h key ≡ Some row → base_of h key ≡ row.base
+base_is h key row is = ap base_in is
+
+-- the length of a named object
+pub named_object : (h : Layout) (key : ℕ) (row : Row) (owner : Owner) (obj : Obj) → IsNamedOnce h.rows → IsNamed h.rows key owner obj → row_of h key ≡ Some row
+    → IsSomeAnd (object_in h owner obj) (λ object. (object.kind ≡ row.kind) × (length object.words ≡ row.len))
+named_object h key row owner obj once named is =
+    subst (λ o. IsSomeAnd o (λ object. (object.kind ≡ row.kind) × (length object.words ≡ row.len)))
+    (sym (object_named h key owner obj once named ∙ object_of_row h key row is)) (refl, length_words h.cells row.base row.len)
