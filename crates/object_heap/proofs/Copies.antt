@@ -60,9 +60,10 @@ keeps_copies old new count stays = record {
 
 all_apart_push : (all : List Held) (held : Held) → AreAllApart all → All (λ other. AreApart other held) all → AreAllApart (all ++ held ∷ [])
 all_apart_push [] held apart others = (All-nil (AreApart held), tt)
-all_apart_push (x ∷ all) held apart others =
-    (All-push (AreApart x) all held apart.0 (All-head (λ other. AreApart other held) x all others),
-    all_apart_push all held apart.1 (All-tail (λ other. AreApart other held) x all others))
+all_apart_push (x ∷ all) held apart others = (
+  All-push (AreApart x) all held apart.0 (All-head (λ other. AreApart other held) x all others),
+  all_apart_push all held apart.1 (All-tail (λ other. AreApart other held) x all others),
+)
 
 -- one copy more, in places that were free
 pub gains_copy : (old new : Layout) (held : Held) → new.copies ≡ old.copies + 1 → ((p : ℕ) → Stays old new p) → IsCopy new held

@@ -1,5 +1,5 @@
 -- Heaps before and behind a change: which objects, marks and spans stay.
-use Rattle.std.proofs.Common.{◌≡◌, ◌≢◌, ℕ, zero, suc, ◌+◌, ◌-◌, ◌<◌, ◌≤◌, Bool, true, false, cond, List, length, Option, Some, None, is_some, IsSomeAnd, refl, sym, ap, subst, ◌∙◌, inl, inr, ◌⊎◌, arith}
+use Rattle.std.proofs.Common.{◌≡◌, ◌≢◌, ℕ, zero, suc, ◌+◌, ◌-◌, ◌<◌, ◌≤◌, Bool, true, false, cond, List, length, slice_get, Option, Some, None, is_some, IsSomeAnd, refl, sym, ap, subst, ◌∙◌, inl, inr, ◌⊎◌, arith}
 use Rattle.std.proofs.lemmas.Bool.{cases_lt, cases_eq, false≢true}
 use Rattle.mpc_values.specs.declared.values.Word.{Word}
 use Rattle.mpc_values.specs.declared.values.Obj.{Obj}
@@ -15,10 +15,10 @@ use Rattle.block_table.specs.Index.{IsSame}
 use Rattle.block_table.proofs.Names.{same_cases}
 use Rattle.word_region.specs.Places.{cell, is_in, IsHeld}
 use Rattle.object_heap.specs.Layout.{Layout, row_of, is_in_row, IsSound, HasPlaces, IsSpan}
-use Rattle.object_heap.specs.Objects.{word_at, words_from, object_by, object_at, object_where, object_in, key_named, Shows, part, span_words}
+use Rattle.object_heap.specs.Objects.{word_or, word_at, words_from, object_by, object_at, object_where, object_in, key_named, Shows, part, span_words}
 use Rattle.object_heap.specs.Marks.{mark_of, mark_where, KeepsMarks, Remarks}
 use Rattle.object_heap.specs.Changes.{Puts, Edits, KeepsObjects, KeepsSpans, KeepsOtherSpans, base_in, base_of}
-use Rattle.object_heap.proofs.Words.{in_range, above_range, same_words, part_words, length_words}
+use Rattle.object_heap.proofs.Words.{in_range, above_range, same_words, part_words, length_words, slice_words}
 use Rattle.object_heap.proofs.Names.{first_key, no_key, name_cases, named_by_row, same_key_named, key_owner, key_obj}
 use Rattle.object_heap.proofs.Rows.{live_row, row_live, live_at, one_row, no_row}
 
@@ -285,3 +285,18 @@ pub named_object : (h : Layout) (key : ℕ) (row : Row) (owner : Owner) (obj : O
 named_object h key row owner obj once named is =
     subst (λ o. IsSomeAnd o (λ object. (object.kind ≡ row.kind) × (length object.words ≡ row.len)))
     (sym (object_named h key owner obj once named ∙ object_of_row h key row is)) (refl, length_words h.cells row.base row.len)
+
+-- a word that stands at a place of an object
+pub read_word : (h : Layout) (key : ℕ) (row : Row) (owner : Owner) (obj : Obj) (object : Object) (at : ℕ) (word : Word) → IsNamedOnce h.rows → IsNamed h.rows key owner obj
+    → row_of h key ≡ Some row → object_in h owner obj ≡ Some object → at < row.len → Some word ≡ cell h.cells (row.base + at) → Some word ≡ slice_get object.words at
+read_word h key row owner obj object at word once named is found within stands =
+    let same : words_from h.cells row.base row.len ≡ object.words = out (record { kind = row.kind; words = words_from h.cells row.base row.len }) object
+    (sym (object_named h key owner obj once named ∙ object_of_row h key row is) ∙ found) in
+    ap Some (ap word_or stands) ∙ (sym (slice_words h.cells row.base row.len at within) ∙ ap (λ ws. slice_get ws at) same)
+  where
+    out : (a b : Object) → Some a ≡ Some b → a.words ≡ b.words
+    out a b e = cc
+
+-- a place of a span stands in the region behind its row's base
+pub place_is : (h : Layout) (key at place : ℕ) (row : Row) → row_of h key ≡ Some row → place ≡ base_of h key + at → place ≡ row.base + at
+place_is h key at place row is there = there ∙ ap (λ n. n + at) (base_is h key row is)

@@ -3,3 +3,7 @@ pub mod Names
 pub mod Rows
 pub mod Heaps
 pub mod Copies
+pub mod Marked
+pub mod Messages
+pub mod Made
+pub mod Listed

@@ -42,7 +42,7 @@ choose_no b x y z e out = e ∙ ap (λ t. cond t x y) out
 pub choose_yes : {A : Type 0} (b : Bool) (x y z : A) → z ≡ cond b x y → b ≡ true → z ≡ x
 choose_yes b x y z e is = e ∙ ap (λ t. cond t x y) is
 
-not_both : (b : Bool) → (b ≡ true → ⊥) → b ≡ false
+pub not_both : (b : Bool) → (b ≡ true → ⊥) → b ≡ false
 not_both true never = absurd (never refl)
 not_both false never = refl
 
@@ -78,7 +78,7 @@ other_row h key other row second at len p sound is also differs within inside =
 pub put_edits : (h : Inside) (region : Places) (copies key : ℕ) (row : Row) (at : ℕ) (words : List Word) → IsSound (seen_of h) → row_of (seen_of h) key ≡ Some row → at + length words ≤ row.len
     → ((k : ℕ) → k < length words → word_at region.cells (row.base + (at + k)) ≡ get_or words k Undef)
     → ((other : ℕ) (second : Row) (p : ℕ) → row_of (seen_of h) other ≡ Some second → is_in_row second p ≡ true → is_in (row.base + at) (length words) p ≡ false
-        → cell region.cells p ≡ cell h.region.cells p)
+    → cell region.cells p ≡ cell h.region.cells p)
     → Edits (seen_of h) (seen_of (with_region h region copies)) key (λ object. with_words object at words)
 put_edits h region copies key row at words sound is within inside outside =
     edits (seen_of h) (seen_of (with_region h region copies)) key row (λ object. with_words object at words) sound refl is
@@ -113,8 +113,11 @@ module _ (h : Inside) (key at place : ℕ) (word : Word) (kept : IsKept h) (row 
 
   pub write_copies : KeepsCopies (seen_of h) (seen_of (with_region h (record { cells = set h.region.cells place (Some word); ranges = h.region.ranges }) h.copies))
   write_copies = keeps_copies (seen_of h) (seen_of (with_region h (record { cells = set h.region.cells place (Some word); ranges = h.region.ranges }) h.copies)) refl
-      (λ p held never. (get_or-set_other h.region.cells place p (Some word) None
-      (λ same. never key (row_live (λ r. is_in_row r p ≡ true) (live h.table key) row is (in_range row.base row.len p (omega arith) (omega arith)))), never))
+      (λ p held never. (
+        get_or-set_other h.region.cells place p (Some word) None
+            (λ same. never key (row_live (λ r. is_in_row r p ≡ true) (live h.table key) row is (in_range row.base row.len p (omega arith) (omega arith)))),
+        never,
+      ))
 
 -- a message goes from one object's places to another's
 module _ (h : Inside) (region : Places) (kept : IsKept h) (source target : Row) (from to : Span) (one : row_of (seen_of h) from.key ≡ Some source) (two : row_of (seen_of h) to.key ≡ Some target)
@@ -122,8 +125,8 @@ module _ (h : Inside) (region : Places) (kept : IsKept h) (source target : Row) 
     (start end : ℕ) (starts : start ≡ source.base + from.at) (ends : end ≡ target.base + to.at) (shifts : Shifts h.region.cells region.cells start end from.len) where
   shifted : (p : ℕ) → cell region.cells p ≡ cond (is_in (target.base + to.at) from.len p) (cell h.region.cells (source.base + from.at + (p - (target.base + to.at)))) (cell h.region.cells p)
   shifted p = shifts.cells p
-    ∙ (ap (λ n. cond (is_in n from.len p) (cell h.region.cells (start + (p - n))) (cell h.region.cells p)) ends
-    ∙ ap (λ n. cond (is_in (target.base + to.at) from.len p) (cell h.region.cells (n + (p - (target.base + to.at)))) (cell h.region.cells p)) starts)
+      ∙ (ap (λ n. cond (is_in n from.len p) (cell h.region.cells (start + (p - n))) (cell h.region.cells p)) ends
+      ∙ ap (λ n. cond (is_in (target.base + to.at) from.len p) (cell h.region.cells (n + (p - (target.base + to.at)))) (cell h.region.cells p)) starts)
 
   pub sent_kept : region.ranges ≡ h.region.ranges → IsKept (with_region h region h.copies)
   sent_kept ranges = record {
@@ -162,7 +165,8 @@ module _ (h : Inside) (region : Places) (kept : IsKept h) (source target : Row) 
         choose_no (is_in (target.base + to.at) from.len p) (cell h.region.cells (source.base + from.at + (p - (target.base + to.at)))) (cell h.region.cells p) (cell region.cells p) (shifted p)
             (not_both (is_in (target.base + to.at) from.len p)
             (λ here. never to.key (row_live (λ r. is_in_row r p ≡ true) (live h.table to.key) target two (within_row target to.at from.len p (omega arith) here)))),
-        never))
+        never,
+      ))
 
 mark_differs : (mark : Mark) → is_send mark ≡ true → is_receive mark ≡ true → ⊥
 mark_differs Free sent received = false≢true sent
@@ -210,8 +214,8 @@ module _ (h : Inside) (region : Places) (copies : ℕ) (kept : IsKept h) (row : 
 
   copied : (p : ℕ) → cell region.cells p ≡ cond (is_in held.base held.len p) (cell h.region.cells (row.base + from.at + (p - held.base))) (cell h.region.cells p)
   copied p = holds.cells p
-    ∙ (ap (λ n. cond (is_in held.base n p) (cell h.region.cells (start + (p - held.base))) (cell h.region.cells p)) (sym len)
-    ∙ ap (λ n. cond (is_in held.base held.len p) (cell h.region.cells (n + (p - held.base))) (cell h.region.cells p)) starts)
+      ∙ (ap (λ n. cond (is_in held.base n p) (cell h.region.cells (start + (p - held.base))) (cell h.region.cells p)) (sym len)
+      ∙ ap (λ n. cond (is_in held.base held.len p) (cell h.region.cells (n + (p - held.base))) (cell h.region.cells p)) starts)
 
   stays : (p : ℕ) → is_in held.base held.len p ≡ false → cell region.cells p ≡ cell h.region.cells p
   stays p out = choose_no (is_in held.base held.len p) (cell h.region.cells (row.base + from.at + (p - held.base))) (cell h.region.cells p) (cell region.cells p) (copied p) out
@@ -281,6 +285,14 @@ module _ (h : Inside) (region : Places) (kept : IsKept h) (held : Held) (one : I
   discard_loses = loses_copy (seen_of h) (seen_of (with_region h region (h.copies - 1))) held (let b = one.counted in omega arith)
       (λ p out there never. (left p out, never))
 
+-- the places of a copy are none of an object's
+pub land_apart : (h : Layout) (held : Held) (one : IsOneCopy h held) (row : Row) (to : Span) → row_of h to.key ≡ Some row → to.at + to.len ≤ row.len → held.len ≤ to.len
+    → (place : ℕ) → place ≡ row.base + to.at → (held.base + held.len ≤ place) ⊎ (place + held.len ≤ held.base)
+land_apart h held one row to is room fits place there =
+    subst (λ n. (held.base + held.len ≤ n) ⊎ (n + held.len ≤ held.base)) (sym there)
+    (apart_ranges held.base (row.base + to.at) held.len held.len one.stands.some (omega arith)
+    (λ p inside also. false≢true (sym (outside_copy h held to.key row p one.stands is (within_row row to.at held.len p (omega arith) also)) ∙ inside)))
+
 -- a copy is landed
 module _ (h : Inside) (region : Places) (kept : IsKept h) (held : Held) (one : IsOneCopy (seen_of h) held) (row : Row) (to : Span) (is : row_of (seen_of h) to.key ≡ Some row)
     (room : to.at + to.len ≤ row.len) (fits : held.len ≤ to.len) (place : ℕ) (there : place ≡ row.base + to.at) (lands : Lands h.region.cells region.cells held.base place held.len)
@@ -289,11 +301,6 @@ module _ (h : Inside) (region : Places) (kept : IsKept h) (held : Held) (one : I
   landed p out =
       choose_no (is_in held.base held.len p) None (cond (is_in place held.len p) (cell h.region.cells (held.base + (p - place))) (cell h.region.cells p)) (cell region.cells p) (lands.cells p) out
       ∙ ap (λ n. cond (is_in n held.len p) (cell h.region.cells (held.base + (p - n))) (cell h.region.cells p)) there
-
-  pub land_apart : (held.base + held.len ≤ place) ⊎ (place + held.len ≤ held.base)
-  land_apart = subst (λ n. (held.base + held.len ≤ n) ⊎ (n + held.len ≤ held.base)) (sym there)
-      (apart_ranges held.base (row.base + to.at) held.len held.len one.stands.some (omega arith)
-      (λ p inside also. false≢true (sym (outside_copy (seen_of h) held to.key row p one.stands is (within_row row to.at held.len p (omega arith) also)) ∙ inside)))
 
   pub land_kept : IsKept (with_region h region (h.copies - 1))
   land_kept = record {
@@ -334,4 +341,5 @@ module _ (h : Inside) (region : Places) (kept : IsKept h) (held : Held) (one : I
         choose_no (is_in (row.base + to.at) held.len p) (cell h.region.cells (held.base + (p - (row.base + to.at)))) (cell h.region.cells p) (cell region.cells p) (landed p out)
             (not_both (is_in (row.base + to.at) held.len p)
             (λ here. never to.key (row_live (λ r. is_in_row r p ≡ true) (live h.table to.key) row is (within_row row to.at held.len p (omega arith) here)))),
-        never))
+        never,
+      ))

@@ -16,8 +16,9 @@ ghost use Rattle.object_heap.specs.Copies.{IsOneCopy, KeepsCopies, GainsCopy, Lo
 ghost use Rattle.object_heap.specs.Changes.{Puts, Edits, KeepsObjects, KeepsSpans, KeepsOtherSpans, Adds, Closes, IsAsBefore, base_of};
 ghost use Rattle.object_heap.specs.Maps.{MapAgrees};
 
+use crate::marks::{some_marked, some_received};
 use crate::places::{release_places, take_places};
-use block_table::{Mark, Row, RowKind, Span, Table};
+use block_table::{Row, RowKind, Span, Table};
 use mpc_values::{Memory, Obj, Owner, Word};
 use mpi_copy::{Held, direct, discard, hold, land};
 use std::alloc::Global;
@@ -145,7 +146,7 @@ impl Heap {
         ensures some { (owner : Owner) (obj : Obj) → IsNamed self.now.rows key owner obj → result ≡ is_some_place (barred_to_loads (marks_in self.now)) owner obj at len }
         ensures none { result ≡ false → AreMarked self.now.rows key at len (λ mark. not (is_receive mark)) }
     {
-        (at..at + len).any(|place| self.table.mark(key, place) == Mark::Receive)
+        some_received(&self.table, key, at, len)
     }
 
     /// Whether a send or a receive has one of some places.
@@ -154,7 +155,7 @@ impl Heap {
         ensures some { (owner : Owner) (obj : Obj) → IsNamed self.now.rows key owner obj → result ≡ is_some_place (barred_to_stores (marks_in self.now)) owner obj at len }
         ensures none { result ≡ false → AreMarked self.now.rows key at len is_free }
     {
-        (at..at + len).any(|place| self.table.mark(key, place) != Mark::Free)
+        some_marked(&self.table, key, at, len)
     }
 
     /// Marks some places as those of one send more. No receive may have one of them, and 4,294,967,295 sends may not.

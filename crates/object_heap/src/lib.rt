@@ -4,6 +4,7 @@
 
 mod heap;
 mod laws;
+mod marks;
 mod places;
 
 pub use heap::Heap;

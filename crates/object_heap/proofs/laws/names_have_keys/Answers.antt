@@ -1,38 +1,21 @@
-use Rattle.std.proofs.Common.{rules, ◌≡◌, ◌≢◌, ◌+◌, ◌≤◌, ◌<◌, ℕ, List, ◌∷◌, ◌++◌, length, slice_get, Option, Some, None, ◌-◌, ◌*◌, ◌/◌, ◌%◌, Bool, true, false, nat_eq, nat_lt, [], slice_index_or, slice_set, bit_and, bit_or, Fits, w8, w32, w64, Bor, MutBor}
-use Rattle.mpc_values.specs.declared.values.Obj.{Obj}
-use Rattle.mpc_values.specs.declared.owners.Owner.{Owner}
-use Rattle.memory_model.specs.Memory.{Memory, Object, with_object, without}
-use Rattle.mpi_copy.specs.declared.Held.{Held}
-use Rattle.block_table.specs.declared.rows.Row.{Row}
-use Rattle.block_table.specs.declared.rows.Span.{Span}
-use Rattle.block_table.specs.Rows.{IsNamed, IsNoName, mark_at}
-use Rattle.object_heap.specs.Layout.{Layout, IsSound, IsSpan, row_of}
-use Rattle.object_heap.specs.Objects.{Shows, key_named, object_at, object_in, part, span_words, words_from}
-use Rattle.object_heap.specs.Marks.{mark_of}
-use Rattle.object_heap.specs.Copies.{AreCopies, IsOneCopy}
-use Rattle.object_heap.specs.Changes.{KeepsObjects, Puts}
+use Rattle.object_heap.proofs.Names.{first_key, no_key}
+use Rattle.object_heap.proofs.Heaps.{object_named, mark_named, words_named, length_span}
 use Rattle.object_heap.proofs.laws.names_have_keys.Goals as goal
 
--- src/laws.rt:27:1
 pub returns-clause-key : goal.returns-clause-key
-returns-clause-key c = ?
+returns-clause-key c = λ h key owner obj sound named. first_key h.rows key owner obj sound.named named
 
--- src/laws.rt:27:1
 pub returns-clause-none : goal.returns-clause-none
-returns-clause-none c = ?
+returns-clause-none c = λ h owner obj none. no_key h.rows owner obj none
 
--- src/laws.rt:27:1
 pub returns-clause-object : goal.returns-clause-object
-returns-clause-object c = ?
+returns-clause-object c = λ h key owner obj sound named. object_named h key owner obj sound.named named
 
--- src/laws.rt:27:1
 pub returns-clause-mark : goal.returns-clause-mark
-returns-clause-mark c = ?
+returns-clause-mark c = λ h key p owner obj sound named. mark_named h key p owner obj sound.named named
 
--- src/laws.rt:27:1
 pub returns-clause-words : goal.returns-clause-words
-returns-clause-words c = ?
+returns-clause-words c = λ h span owner obj sound good. words_named h span owner obj sound.named good
 
--- src/laws.rt:27:1
 pub returns-clause-length : goal.returns-clause-length
-returns-clause-length c = ?
+returns-clause-length c = λ h span owner obj good. length_span h span good.places

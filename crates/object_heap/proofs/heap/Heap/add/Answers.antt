@@ -1,45 +1,63 @@
-use Rattle.std.proofs.Common.{rules, ◌≡◌, ◌≢◌, ℕ, ◌+◌, ◌<◌, ◌≤◌, ◌↔◌, [], true, false, not, IsTrue, length, replicate, slice_get, Some, None, is_some, IfOk, OnErr, OnOk, MatchOption, IfSome, IsSomeAnd, ◌-◌, ◌*◌, ◌/◌, ◌%◌, Bool, nat_eq, nat_lt, List, ◌∷◌, ◌++◌, slice_index_or, slice_set, bit_and, bit_or, Fits, w8, w32, w64, Bor, MutBor}
+use Rattle.std.proofs.Common.{◌≡◌, replicate, Some, None, subst, sym}
 use Rattle.mpc_values.specs.declared.values.Word.TheVariants.{Undef}
-use Rattle.mpc_values.specs.declared.values.Obj.{Obj}
-use Rattle.mpc_values.specs.declared.owners.Owner.{Owner}
-use Rattle.memory_model.specs.Memory.{Object}
-use Rattle.memory_model.specs.Marks.{barred_to_loads, barred_to_stores, is_some_place}
-use Rattle.memory_model.specs.Access.{with_word}
-use Rattle.block_table.specs.declared.rows.Mark.TheVariants.{Free}
-use Rattle.block_table.specs.Rows.{live, IsLive, IsNamed, AreMarked, mark_at, rows_of, may_send, is_free, is_send, is_receive, with_send, without_send, with_receive, without_receive}
-use Rattle.word_region.specs.Places.{IsFirstFit}
-use Rattle.object_heap.specs.Layout.{row_of, IsSound, HasPlaces}
-use Rattle.object_heap.specs.Objects.{key_named, object_at, object_in, span_words, with_words}
-use Rattle.object_heap.specs.Marks.{mark_of, marks_in, KeepsMarks, Remarks}
-use Rattle.object_heap.specs.Copies.{IsOneCopy, KeepsCopies, GainsCopy, LosesCopy, copy_words}
-use Rattle.object_heap.specs.Changes.{Puts, Edits, KeepsObjects, KeepsSpans, KeepsOtherSpans, Adds, Closes, IsAsBefore, base_of}
-use Rattle.object_heap.specs.Maps.{MapAgrees}
+use Rattle.block_table.specs.Rows.{Rows, IsNoName}
+use Rattle.object_heap.specs.Layout.{Layout}
+use Rattle.object_heap.specs.Objects.{object_in}
+use Rattle.object_heap.specs.Kept.{seen_of}
+use Rattle.object_heap.specs.Marks.{KeepsMarks}
+use Rattle.object_heap.specs.Changes.{Puts, KeepsObjects}
+use Rattle.object_heap.specs.Copies.{KeepsCopies}
+use Rattle.object_heap.proofs.Heaps.{name_of_none}
+use Rattle.object_heap.proofs.Made.{with_both, added_kept, added_object, added_marks, added_copies, given_up_objects, given_up_copies}
 use Rattle.object_heap.proofs.heap.Heap.add.Goals as goal
 
--- src/heap.rt:90:15
 pub add_row-requires : goal.add_row-requires
-add_row-requires c = ?
+add_row-requires c =
+    name_of_none (seen_of c.self.inside) c.args.owner c.args.obj (subst (λ (h : Layout). object_in h c.args.owner c.args.obj ≡ None) (sym c.self.view_is) c.requires)
 
--- src/heap.rt:91:24
 pub invariant_of-self-in-Ok : goal.invariant_of-self-in-Ok
-invariant_of-self-in-Ok c = ?
+invariant_of-self-in-Ok c =
+    let taken = c.in_ok-base.ensures in
+    let row = c.in-Ok.ensures in
+    let fresh = name_of_none (seen_of c.self.inside) c.args.owner c.args.obj (subst (λ (h : Layout). object_in h c.args.owner c.args.obj ≡ None) (sym c.self.view_is) c.requires) in
+    added_kept c.self.inside c.take_places.new.region c.add_row.new.self c.self.invariant c.in-Ok.key c.in_ok-base.base c.args.len c.args.owner c.args.obj c.args.kind taken.first.free taken.takes row.vacant row.added fresh taken.ranges
 
--- src/heap.rt:71:5
 pub returns-in-Ok-clause-object : goal.returns-in-Ok-clause-object
-returns-in-Ok-clause-object c = ?
+returns-in-Ok-clause-object c =
+    let taken = c.in_ok-base.ensures in
+    let row = c.in-Ok.ensures in
+    let fresh = name_of_none (seen_of c.self.inside) c.args.owner c.args.obj (subst (λ (h : Layout). object_in h c.args.owner c.args.obj ≡ None) (sym c.self.view_is) c.requires) in
+    subst (λ (h : Layout). Puts h (seen_of (with_both c.self.inside c.take_places.new.region c.add_row.new.self)) c.args.owner c.args.obj (Some (record { kind = c.args.kind; words = replicate c.args.len Undef }))) c.self.view_is
+    (added_object c.self.inside c.take_places.new.region c.add_row.new.self c.self.invariant c.in-Ok.key c.in_ok-base.base c.args.len c.args.owner c.args.obj c.args.kind taken.first.free taken.takes row.vacant row.added fresh)
 
--- src/heap.rt:71:5
 pub returns-in-Ok-clause-marks : goal.returns-in-Ok-clause-marks
-returns-in-Ok-clause-marks c = ?
+returns-in-Ok-clause-marks c =
+    let taken = c.in_ok-base.ensures in
+    let row = c.in-Ok.ensures in
+    let fresh = name_of_none (seen_of c.self.inside) c.args.owner c.args.obj (subst (λ (h : Layout). object_in h c.args.owner c.args.obj ≡ None) (sym c.self.view_is) c.requires) in
+    subst (λ (h : Layout). KeepsMarks h (seen_of (with_both c.self.inside c.take_places.new.region c.add_row.new.self))) c.self.view_is
+    (added_marks c.self.inside c.take_places.new.region c.add_row.new.self c.self.invariant c.in-Ok.key c.in_ok-base.base c.args.len c.args.owner c.args.obj c.args.kind taken.first.free taken.takes row.vacant row.added fresh)
 
--- src/heap.rt:71:5
 pub returns-in-Ok-clause-copies : goal.returns-in-Ok-clause-copies
-returns-in-Ok-clause-copies c = ?
+returns-in-Ok-clause-copies c =
+    let taken = c.in_ok-base.ensures in
+    let row = c.in-Ok.ensures in
+    let fresh = name_of_none (seen_of c.self.inside) c.args.owner c.args.obj (subst (λ (h : Layout). object_in h c.args.owner c.args.obj ≡ None) (sym c.self.view_is) c.requires) in
+    subst (λ (h : Layout). KeepsCopies h (seen_of (with_both c.self.inside c.take_places.new.region c.add_row.new.self))) c.self.view_is
+    (added_copies c.self.inside c.take_places.new.region c.add_row.new.self c.self.invariant c.in-Ok.key c.in_ok-base.base c.args.len c.args.owner c.args.obj c.args.kind taken.first.free taken.takes row.vacant row.added fresh)
 
--- src/heap.rt:71:5
 pub returns-in-Err-clause-copies : goal.returns-in-Err-clause-copies
-returns-in-Err-clause-copies c = ?
+returns-in-Err-clause-copies c =
+    let taken = c.in_ok-base.ensures in
+    let same = c.in-Err.ensures in
+    subst (λ (h : Layout). KeepsCopies h (seen_of (with_both c.self.inside c.release_places.new.region c.add_row.new.self))) c.self.view_is
+    (subst (λ (table : Rows). KeepsCopies (seen_of c.self.inside) (seen_of (with_both c.self.inside c.release_places.new.region table))) (sym same.err)
+    (given_up_copies c.self.inside c.take_places.new.region c.release_places.new.region c.self.invariant c.in_ok-base.base c.args.len taken.first.free taken.takes c.release_places.ensures.releases))
 
--- src/heap.rt:71:5
 pub returns-in-Err-clause-err_objects : goal.returns-in-Err-clause-err_objects
-returns-in-Err-clause-err_objects c = ?
+returns-in-Err-clause-err_objects c =
+    let taken = c.in_ok-base.ensures in
+    let same = c.in-Err.ensures in
+    subst (λ (h : Layout). KeepsObjects h (seen_of (with_both c.self.inside c.release_places.new.region c.add_row.new.self))) c.self.view_is
+    (subst (λ (table : Rows). KeepsObjects (seen_of c.self.inside) (seen_of (with_both c.self.inside c.release_places.new.region table))) (sym same.err)
+    (given_up_objects c.self.inside c.take_places.new.region c.release_places.new.region c.self.invariant c.in_ok-base.base c.args.len taken.first.free taken.takes c.release_places.ensures.releases))

@@ -1,33 +1,29 @@
-use Rattle.std.proofs.Common.{rules, ◌≡◌, ◌≢◌, ℕ, ◌+◌, ◌<◌, ◌≤◌, ◌↔◌, [], true, false, not, IsTrue, length, replicate, slice_get, Some, None, is_some, IfOk, OnErr, OnOk, MatchOption, IfSome, IsSomeAnd, ◌-◌, ◌*◌, ◌/◌, ◌%◌, Bool, nat_eq, nat_lt, List, ◌∷◌, ◌++◌, slice_index_or, slice_set, bit_and, bit_or, Fits, w8, w32, w64, Bor, MutBor}
-use Rattle.mpc_values.specs.declared.values.Word.TheVariants.{Undef}
+use Rattle.std.proofs.Common.{◌≡◌, ℕ, true, None, subst, sym}
 use Rattle.mpc_values.specs.declared.values.Obj.{Obj}
 use Rattle.mpc_values.specs.declared.owners.Owner.{Owner}
-use Rattle.memory_model.specs.Memory.{Object}
-use Rattle.memory_model.specs.Marks.{barred_to_loads, barred_to_stores, is_some_place}
-use Rattle.memory_model.specs.Access.{with_word}
-use Rattle.block_table.specs.declared.rows.Mark.TheVariants.{Free}
-use Rattle.block_table.specs.Rows.{live, IsLive, IsNamed, AreMarked, mark_at, rows_of, may_send, is_free, is_send, is_receive, with_send, without_send, with_receive, without_receive}
-use Rattle.word_region.specs.Places.{IsFirstFit}
-use Rattle.object_heap.specs.Layout.{row_of, IsSound, HasPlaces}
-use Rattle.object_heap.specs.Objects.{key_named, object_at, object_in, span_words, with_words}
-use Rattle.object_heap.specs.Marks.{mark_of, marks_in, KeepsMarks, Remarks}
-use Rattle.object_heap.specs.Copies.{IsOneCopy, KeepsCopies, GainsCopy, LosesCopy, copy_words}
-use Rattle.object_heap.specs.Changes.{Puts, Edits, KeepsObjects, KeepsSpans, KeepsOtherSpans, Adds, Closes, IsAsBefore, base_of}
-use Rattle.object_heap.specs.Maps.{MapAgrees}
+use Rattle.block_table.specs.Rows.{IsNamed, is_free, mark_at}
+use Rattle.object_heap.specs.Layout.{Layout}
+use Rattle.object_heap.specs.Kept.{seen_of}
+use Rattle.object_heap.specs.Marks.{KeepsMarks}
+use Rattle.object_heap.specs.Changes.{Puts}
+use Rattle.object_heap.specs.Copies.{KeepsCopies}
+use Rattle.object_heap.proofs.Made.{with_both, closed_kept, closed_object, closed_marks, closed_copies}
 use Rattle.object_heap.proofs.heap.Heap.close.Goals as goal
 
--- src/heap.rt:219:5
 pub invariant_of-self : goal.invariant_of-self
-invariant_of-self c = ?
+invariant_of-self c = closed_kept c.self.inside c.release_places.new.region c.close_row-row.new.self c.self.invariant c.args.key c.close_row-row.result (sym c.close_row-row.ensures.row) (subst (λ (h : Layout). (p : ℕ) → is_free (mark_at h.rows c.args.key p) ≡ true) (sym c.self.view_is) c.requires.clear) c.close_row-row.ensures.closed c.release_places.ensures.releases c.release_places.ensures.ranges
 
--- src/heap.rt:219:5
 pub returns-clause-object : goal.returns-clause-object
-returns-clause-object c = ?
+returns-clause-object c =
+    subst (λ (h : Layout). (owner : Owner) (obj : Obj) → IsNamed h.rows c.args.key owner obj → Puts h (seen_of (with_both c.self.inside c.release_places.new.region c.close_row-row.new.self)) owner obj None) c.self.view_is
+    (closed_object c.self.inside c.release_places.new.region c.close_row-row.new.self c.self.invariant c.args.key c.close_row-row.result (sym c.close_row-row.ensures.row) (subst (λ (h : Layout). (p : ℕ) → is_free (mark_at h.rows c.args.key p) ≡ true) (sym c.self.view_is) c.requires.clear) c.close_row-row.ensures.closed c.release_places.ensures.releases)
 
--- src/heap.rt:219:5
 pub returns-clause-marks : goal.returns-clause-marks
-returns-clause-marks c = ?
+returns-clause-marks c =
+    subst (λ (h : Layout). KeepsMarks h (seen_of (with_both c.self.inside c.release_places.new.region c.close_row-row.new.self))) c.self.view_is
+    (closed_marks c.self.inside c.release_places.new.region c.close_row-row.new.self c.self.invariant c.args.key c.close_row-row.result (sym c.close_row-row.ensures.row) (subst (λ (h : Layout). (p : ℕ) → is_free (mark_at h.rows c.args.key p) ≡ true) (sym c.self.view_is) c.requires.clear) c.close_row-row.ensures.closed c.release_places.ensures.releases)
 
--- src/heap.rt:219:5
 pub returns-clause-copies : goal.returns-clause-copies
-returns-clause-copies c = ?
+returns-clause-copies c =
+    subst (λ (h : Layout). KeepsCopies h (seen_of (with_both c.self.inside c.release_places.new.region c.close_row-row.new.self))) c.self.view_is
+    (closed_copies c.self.inside c.release_places.new.region c.close_row-row.new.self c.self.invariant c.args.key c.close_row-row.result (sym c.close_row-row.ensures.row) (subst (λ (h : Layout). (p : ℕ) → is_free (mark_at h.rows c.args.key p) ≡ true) (sym c.self.view_is) c.requires.clear) c.close_row-row.ensures.closed c.release_places.ensures.releases)

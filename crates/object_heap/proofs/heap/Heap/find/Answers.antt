@@ -1,25 +1,29 @@
-use Rattle.std.proofs.Common.{rules, ◌≡◌, ◌≢◌, ℕ, ◌+◌, ◌<◌, ◌≤◌, ◌↔◌, [], true, false, not, IsTrue, length, replicate, slice_get, Some, None, is_some, IfOk, OnErr, OnOk, MatchOption, IfSome, IsSomeAnd, ◌-◌, ◌*◌, ◌/◌, ◌%◌, Bool, nat_eq, nat_lt, List, ◌∷◌, ◌++◌, slice_index_or, slice_set, bit_and, bit_or, Fits, w8, w32, w64, Bor, MutBor}
-use Rattle.mpc_values.specs.declared.values.Word.TheVariants.{Undef}
+use Rattle.std.proofs.Common.{◌≡◌, ◌∙◌, ℕ, Option, Some, None, MatchOption, subst, sym, refl}
 use Rattle.mpc_values.specs.declared.values.Obj.{Obj}
 use Rattle.mpc_values.specs.declared.owners.Owner.{Owner}
-use Rattle.memory_model.specs.Memory.{Object}
-use Rattle.memory_model.specs.Marks.{barred_to_loads, barred_to_stores, is_some_place}
-use Rattle.memory_model.specs.Access.{with_word}
-use Rattle.block_table.specs.declared.rows.Mark.TheVariants.{Free}
-use Rattle.block_table.specs.Rows.{live, IsLive, IsNamed, AreMarked, mark_at, rows_of, may_send, is_free, is_send, is_receive, with_send, without_send, with_receive, without_receive}
-use Rattle.word_region.specs.Places.{IsFirstFit}
-use Rattle.object_heap.specs.Layout.{row_of, IsSound, HasPlaces}
-use Rattle.object_heap.specs.Objects.{key_named, object_at, object_in, span_words, with_words}
-use Rattle.object_heap.specs.Marks.{mark_of, marks_in, KeepsMarks, Remarks}
-use Rattle.object_heap.specs.Copies.{IsOneCopy, KeepsCopies, GainsCopy, LosesCopy, copy_words}
-use Rattle.object_heap.specs.Changes.{Puts, Edits, KeepsObjects, KeepsSpans, KeepsOtherSpans, Adds, Closes, IsAsBefore, base_of}
-use Rattle.object_heap.specs.Maps.{MapAgrees}
+use Rattle.block_table.specs.Rows.{Rows, IsNamed, IsNoName, IsNamedOnce}
+use Rattle.object_heap.specs.Layout.{Layout}
+use Rattle.object_heap.specs.Kept.{seen_of}
+use Rattle.object_heap.specs.Objects.{object_in, key_named}
+use Rattle.object_heap.proofs.Names.{first_key, no_key}
+use Rattle.object_heap.proofs.Heaps.{no_object}
 use Rattle.object_heap.proofs.heap.Heap.find.Goals as goal
 
--- src/heap.rt:100:5
-pub returns-clause-found : goal.returns-clause-found
-returns-clause-found c = ?
+found_in : (h : Layout) (owner : Owner) (obj : Obj) (o : Option ℕ) → MatchOption o (IsNoName h.rows owner obj) (λ key. IsNamed h.rows key owner obj)
+    → MatchOption o (object_in h owner obj ≡ None) (λ key. IsNamed h.rows key owner obj)
+found_in h owner obj None none = no_object h owner obj none
+found_in h owner obj (Some key) named = named
 
--- src/heap.rt:100:5
+key_in : (rows : Rows) (owner : Owner) (obj : Obj) (o : Option ℕ) → IsNamedOnce rows → MatchOption o (IsNoName rows owner obj) (λ key. IsNamed rows key owner obj) → o ≡ key_named rows owner obj
+key_in rows owner obj None once none = sym (no_key rows owner obj none)
+key_in rows owner obj (Some key) once named = sym (first_key rows key owner obj once named)
+
+pub returns-clause-found : goal.returns-clause-found
+returns-clause-found c =
+    subst (λ (h : Layout). MatchOption c.find.result (object_in h c.args.owner c.args.obj ≡ None) (λ key. IsNamed h.rows key c.args.owner c.args.obj)) c.self.view_is
+    (found_in (seen_of c.self.inside) c.args.owner c.args.obj c.find.result c.find.ensures.found)
+
 pub returns-clause-key : goal.returns-clause-key
-returns-clause-key c = ?
+returns-clause-key c =
+    subst (λ (h : Layout). c.find.result ≡ key_named h.rows c.args.owner c.args.obj) c.self.view_is
+    (key_in c.self.inside.table c.args.owner c.args.obj c.find.result c.find.ensures.once c.find.ensures.found)

@@ -1,33 +1,44 @@
-use Rattle.std.proofs.Common.{rules, ◌≡◌, ◌≢◌, ℕ, ◌+◌, ◌<◌, ◌≤◌, ◌↔◌, [], true, false, not, IsTrue, length, replicate, slice_get, Some, None, is_some, IfOk, OnErr, OnOk, MatchOption, IfSome, IsSomeAnd, ◌-◌, ◌*◌, ◌/◌, ◌%◌, Bool, nat_eq, nat_lt, List, ◌∷◌, ◌++◌, slice_index_or, slice_set, bit_and, bit_or, Fits, w8, w32, w64, Bor, MutBor}
-use Rattle.mpc_values.specs.declared.values.Word.TheVariants.{Undef}
-use Rattle.mpc_values.specs.declared.values.Obj.{Obj}
-use Rattle.mpc_values.specs.declared.owners.Owner.{Owner}
-use Rattle.memory_model.specs.Memory.{Object}
-use Rattle.memory_model.specs.Marks.{barred_to_loads, barred_to_stores, is_some_place}
-use Rattle.memory_model.specs.Access.{with_word}
-use Rattle.block_table.specs.declared.rows.Mark.TheVariants.{Free}
-use Rattle.block_table.specs.Rows.{live, IsLive, IsNamed, AreMarked, mark_at, rows_of, may_send, is_free, is_send, is_receive, with_send, without_send, with_receive, without_receive}
-use Rattle.word_region.specs.Places.{IsFirstFit}
-use Rattle.object_heap.specs.Layout.{row_of, IsSound, HasPlaces}
-use Rattle.object_heap.specs.Objects.{key_named, object_at, object_in, span_words, with_words}
-use Rattle.object_heap.specs.Marks.{mark_of, marks_in, KeepsMarks, Remarks}
-use Rattle.object_heap.specs.Copies.{IsOneCopy, KeepsCopies, GainsCopy, LosesCopy, copy_words}
-use Rattle.object_heap.specs.Changes.{Puts, Edits, KeepsObjects, KeepsSpans, KeepsOtherSpans, Adds, Closes, IsAsBefore, base_of}
-use Rattle.object_heap.specs.Maps.{MapAgrees}
+use Rattle.std.proofs.Common.{◌≡◌, ◌+◌, subst, sym}
+use Rattle.object_heap.specs.Layout.{Layout, HasPlaces}
+use Rattle.object_heap.specs.Objects.{span_words}
+use Rattle.object_heap.specs.Kept.{seen_of}
+use Rattle.object_heap.specs.Changes.{KeepsObjects, base_of}
+use Rattle.object_heap.specs.Copies.{GainsCopy, copy_words}
+use Rattle.object_heap.proofs.Heaps.{span_row, place_is}
+use Rattle.object_heap.proofs.Messages.{with_region, hold_kept, hold_words, hold_objects, hold_gains}
 use Rattle.object_heap.proofs.heap.Heap.hold.Goals as goal
 
--- src/heap.rt:252:5
 pub invariant_of-self-2 : goal.invariant_of-self-2
-invariant_of-self-2 c = ?
+invariant_of-self-2 c =
+    let from_row = span_row (seen_of c.self.inside) c.args.from (subst (λ (h : Layout). HasPlaces h c.args.from) (sym c.self.view_is) c.requires) in
+    let from_place = place_is (seen_of c.self.inside) c.args.from.key c.args.from.at c.place-source.result from_row.0 from_row.1 (subst (λ (h : Layout). c.place-source.result ≡ base_of h c.args.from.key + c.args.from.at) (sym c.self.view_is) c.place-source.ensures) in
+    let holds = c.in_ok-held.ensures in
+    let count : c.in-Some.copies ≡ c.self.inside.copies + 1 = c.in-Some.ensures.0 in
+    hold_kept c.self.inside c.hold.new.region c.in-Some.copies c.self.invariant from_row.0 c.args.from from_row.1 from_row.2 c.requires.some c.place-source.result from_place c.in_ok-held.held holds.len holds.first.free holds.holds count holds.ranges
 
--- src/heap.rt:252:5
 pub returns-clause-words : goal.returns-clause-words
-returns-clause-words c = ?
+returns-clause-words c =
+    let from_row = span_row (seen_of c.self.inside) c.args.from (subst (λ (h : Layout). HasPlaces h c.args.from) (sym c.self.view_is) c.requires) in
+    let from_place = place_is (seen_of c.self.inside) c.args.from.key c.args.from.at c.place-source.result from_row.0 from_row.1 (subst (λ (h : Layout). c.place-source.result ≡ base_of h c.args.from.key + c.args.from.at) (sym c.self.view_is) c.place-source.ensures) in
+    let holds = c.in_ok-held.ensures in
+    let count : c.in-Some.copies ≡ c.self.inside.copies + 1 = c.in-Some.ensures.0 in
+    subst (λ (h : Layout). copy_words (seen_of (with_region c.self.inside c.hold.new.region c.in-Some.copies)) c.in_ok-held.held ≡ span_words h c.args.from) c.self.view_is
+    (hold_words c.self.inside c.hold.new.region c.in-Some.copies c.self.invariant from_row.0 c.args.from from_row.1 from_row.2 c.requires.some c.place-source.result from_place c.in_ok-held.held holds.len holds.first.free holds.holds count)
 
--- src/heap.rt:252:5
 pub returns-clause-gains : goal.returns-clause-gains
-returns-clause-gains c = ?
+returns-clause-gains c =
+    let from_row = span_row (seen_of c.self.inside) c.args.from (subst (λ (h : Layout). HasPlaces h c.args.from) (sym c.self.view_is) c.requires) in
+    let from_place = place_is (seen_of c.self.inside) c.args.from.key c.args.from.at c.place-source.result from_row.0 from_row.1 (subst (λ (h : Layout). c.place-source.result ≡ base_of h c.args.from.key + c.args.from.at) (sym c.self.view_is) c.place-source.ensures) in
+    let holds = c.in_ok-held.ensures in
+    let count : c.in-Some.copies ≡ c.self.inside.copies + 1 = c.in-Some.ensures.0 in
+    subst (λ (h : Layout). GainsCopy h (seen_of (with_region c.self.inside c.hold.new.region c.in-Some.copies)) c.in_ok-held.held) c.self.view_is
+    (hold_gains c.self.inside c.hold.new.region c.in-Some.copies c.self.invariant from_row.0 c.args.from from_row.1 from_row.2 c.requires.some c.place-source.result from_place c.in_ok-held.held holds.len holds.first.free holds.holds count)
 
--- src/heap.rt:252:5
 pub returns-clause-objects : goal.returns-clause-objects
-returns-clause-objects c = ?
+returns-clause-objects c =
+    let from_row = span_row (seen_of c.self.inside) c.args.from (subst (λ (h : Layout). HasPlaces h c.args.from) (sym c.self.view_is) c.requires) in
+    let from_place = place_is (seen_of c.self.inside) c.args.from.key c.args.from.at c.place-source.result from_row.0 from_row.1 (subst (λ (h : Layout). c.place-source.result ≡ base_of h c.args.from.key + c.args.from.at) (sym c.self.view_is) c.place-source.ensures) in
+    let holds = c.in_ok-held.ensures in
+    let count : c.in-Some.copies ≡ c.self.inside.copies + 1 = c.in-Some.ensures.0 in
+    subst (λ (h : Layout). KeepsObjects h (seen_of (with_region c.self.inside c.hold.new.region c.in-Some.copies))) c.self.view_is
+    (hold_objects c.self.inside c.hold.new.region c.in-Some.copies c.self.invariant from_row.0 c.args.from from_row.1 from_row.2 c.requires.some c.place-source.result from_place c.in_ok-held.held holds.len holds.first.free holds.holds count)

@@ -1,29 +1,20 @@
-use Rattle.std.proofs.Common.{rules, ◌≡◌, ◌≢◌, ℕ, ◌+◌, ◌<◌, ◌≤◌, ◌↔◌, [], true, false, not, IsTrue, length, replicate, slice_get, Some, None, is_some, IfOk, OnErr, OnOk, MatchOption, IfSome, IsSomeAnd, ◌-◌, ◌*◌, ◌/◌, ◌%◌, Bool, nat_eq, nat_lt, List, ◌∷◌, ◌++◌, slice_index_or, slice_set, bit_and, bit_or, Fits, w8, w32, w64, Bor, MutBor}
-use Rattle.mpc_values.specs.declared.values.Word.TheVariants.{Undef}
+use Rattle.std.proofs.Common.{◌≡◌, ◌∙◌, not, false, subst, sym}
 use Rattle.mpc_values.specs.declared.values.Obj.{Obj}
 use Rattle.mpc_values.specs.declared.owners.Owner.{Owner}
-use Rattle.memory_model.specs.Memory.{Object}
-use Rattle.memory_model.specs.Marks.{barred_to_loads, barred_to_stores, is_some_place}
-use Rattle.memory_model.specs.Access.{with_word}
-use Rattle.block_table.specs.declared.rows.Mark.TheVariants.{Free}
-use Rattle.block_table.specs.Rows.{live, IsLive, IsNamed, AreMarked, mark_at, rows_of, may_send, is_free, is_send, is_receive, with_send, without_send, with_receive, without_receive}
-use Rattle.word_region.specs.Places.{IsFirstFit}
-use Rattle.object_heap.specs.Layout.{row_of, IsSound, HasPlaces}
-use Rattle.object_heap.specs.Objects.{key_named, object_at, object_in, span_words, with_words}
-use Rattle.object_heap.specs.Marks.{mark_of, marks_in, KeepsMarks, Remarks}
-use Rattle.object_heap.specs.Copies.{IsOneCopy, KeepsCopies, GainsCopy, LosesCopy, copy_words}
-use Rattle.object_heap.specs.Changes.{Puts, Edits, KeepsObjects, KeepsSpans, KeepsOtherSpans, Adds, Closes, IsAsBefore, base_of}
-use Rattle.object_heap.specs.Maps.{MapAgrees}
+use Rattle.memory_model.specs.Marks.{barred_to_stores, is_some_place}
+use Rattle.block_table.specs.Rows.{IsNamed, AreMarked, is_free, is_receive}
+use Rattle.object_heap.specs.Layout.{Layout}
+use Rattle.object_heap.specs.Kept.{seen_of}
+use Rattle.object_heap.specs.Marks.{marks_in}
+use Rattle.object_heap.proofs.Marked.{some_marked, unmarked_free}
 use Rattle.object_heap.proofs.heap.Heap.is_marked.Goals as goal
 
--- src/heap.rt:157:14
-pub overflow_add-at : goal.overflow_add-at
-overflow_add-at c = ?
-
--- src/heap.rt:152:5
 pub returns-clause-some : goal.returns-clause-some
-returns-clause-some c = ?
+returns-clause-some c =
+    subst (λ (h : Layout). (owner : Owner) (obj : Obj) → IsNamed h.rows c.args.key owner obj → c.some_marked.result ≡ is_some_place (barred_to_stores (marks_in h)) owner obj c.args.at c.args.len) c.self.view_is
+    (λ owner obj named. c.some_marked.ensures ∙ some_marked (seen_of c.self.inside) c.args.key c.args.at c.args.len owner obj c.self.invariant.sound named)
 
--- src/heap.rt:152:5
 pub returns-clause-none : goal.returns-clause-none
-returns-clause-none c = ?
+returns-clause-none c =
+    subst (λ (h : Layout). c.some_marked.result ≡ false → AreMarked h.rows c.args.key c.args.at c.args.len is_free) c.self.view_is
+    (λ e. unmarked_free c.self.inside.table c.args.key c.args.at c.args.len (sym c.some_marked.ensures ∙ e))

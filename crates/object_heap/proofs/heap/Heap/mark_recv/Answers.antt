@@ -1,33 +1,30 @@
-use Rattle.std.proofs.Common.{rules, ◌≡◌, ◌≢◌, ℕ, ◌+◌, ◌<◌, ◌≤◌, ◌↔◌, [], true, false, not, IsTrue, length, replicate, slice_get, Some, None, is_some, IfOk, OnErr, OnOk, MatchOption, IfSome, IsSomeAnd, ◌-◌, ◌*◌, ◌/◌, ◌%◌, Bool, nat_eq, nat_lt, List, ◌∷◌, ◌++◌, slice_index_or, slice_set, bit_and, bit_or, Fits, w8, w32, w64, Bor, MutBor}
-use Rattle.mpc_values.specs.declared.values.Word.TheVariants.{Undef}
-use Rattle.mpc_values.specs.declared.values.Obj.{Obj}
-use Rattle.mpc_values.specs.declared.owners.Owner.{Owner}
-use Rattle.memory_model.specs.Memory.{Object}
-use Rattle.memory_model.specs.Marks.{barred_to_loads, barred_to_stores, is_some_place}
-use Rattle.memory_model.specs.Access.{with_word}
-use Rattle.block_table.specs.declared.rows.Mark.TheVariants.{Free}
-use Rattle.block_table.specs.Rows.{live, IsLive, IsNamed, AreMarked, mark_at, rows_of, may_send, is_free, is_send, is_receive, with_send, without_send, with_receive, without_receive}
-use Rattle.word_region.specs.Places.{IsFirstFit}
-use Rattle.object_heap.specs.Layout.{row_of, IsSound, HasPlaces}
-use Rattle.object_heap.specs.Objects.{key_named, object_at, object_in, span_words, with_words}
-use Rattle.object_heap.specs.Marks.{mark_of, marks_in, KeepsMarks, Remarks}
-use Rattle.object_heap.specs.Copies.{IsOneCopy, KeepsCopies, GainsCopy, LosesCopy, copy_words}
-use Rattle.object_heap.specs.Changes.{Puts, Edits, KeepsObjects, KeepsSpans, KeepsOtherSpans, Adds, Closes, IsAsBefore, base_of}
-use Rattle.object_heap.specs.Maps.{MapAgrees}
+use Rattle.std.proofs.Common.{◌+◌, ◌≤◌, subst, sym}
+use Rattle.block_table.specs.Rows.{IsLive, with_receive}
+use Rattle.object_heap.specs.Layout.{Layout}
+use Rattle.object_heap.specs.Kept.{seen_of}
+use Rattle.object_heap.specs.Marks.{Remarks}
+use Rattle.object_heap.specs.Changes.{KeepsObjects}
+use Rattle.object_heap.specs.Copies.{KeepsCopies}
+use Rattle.object_heap.proofs.Heaps.{remarks}
+use Rattle.object_heap.proofs.Marked.{with_table, marked_kept, marked_objects, marked_copies}
 use Rattle.object_heap.proofs.heap.Heap.mark_recv.Goals as goal
 
--- src/heap.rt:173:5
 pub invariant_of-self : goal.invariant_of-self
-invariant_of-self c = ?
+invariant_of-self c =
+    marked_kept c.self.inside c.mark_recv.new.self c.args.key c.args.at c.args.len with_receive c.self.invariant c.mark_recv.ensures
+    (subst (λ (h : Layout). IsLive h.rows c.args.key (λ row. c.args.at + c.args.len ≤ row.len)) (sym c.self.view_is) c.requires.within)
 
--- src/heap.rt:173:5
 pub returns-clause-marks : goal.returns-clause-marks
-returns-clause-marks c = ?
+returns-clause-marks c =
+    subst (λ (h : Layout). Remarks h (seen_of (with_table c.self.inside c.mark_recv.new.self)) c.args.key c.args.at c.args.len with_receive) c.self.view_is
+    (remarks (seen_of c.self.inside) (seen_of (with_table c.self.inside c.mark_recv.new.self)) c.args.key c.args.at c.args.len with_receive c.self.invariant.sound.named c.mark_recv.ensures)
 
--- src/heap.rt:173:5
 pub returns-clause-objects : goal.returns-clause-objects
-returns-clause-objects c = ?
+returns-clause-objects c =
+    subst (λ (h : Layout). KeepsObjects h (seen_of (with_table c.self.inside c.mark_recv.new.self))) c.self.view_is
+    (marked_objects c.self.inside c.mark_recv.new.self c.args.key c.args.at c.args.len with_receive c.self.invariant c.mark_recv.ensures)
 
--- src/heap.rt:173:5
 pub returns-clause-copies : goal.returns-clause-copies
-returns-clause-copies c = ?
+returns-clause-copies c =
+    subst (λ (h : Layout). KeepsCopies h (seen_of (with_table c.self.inside c.mark_recv.new.self))) c.self.view_is
+    (marked_copies c.self.inside c.mark_recv.new.self c.args.key c.args.at c.args.len with_receive c.self.invariant c.mark_recv.ensures)

@@ -1,25 +1,35 @@
-use Rattle.std.proofs.Common.{rules, ◌≡◌, ◌≢◌, ℕ, ◌+◌, ◌<◌, ◌≤◌, ◌↔◌, [], true, false, not, IsTrue, length, replicate, slice_get, Some, None, is_some, IfOk, OnErr, OnOk, MatchOption, IfSome, IsSomeAnd, ◌-◌, ◌*◌, ◌/◌, ◌%◌, Bool, nat_eq, nat_lt, List, ◌∷◌, ◌++◌, slice_index_or, slice_set, bit_and, bit_or, Fits, w8, w32, w64, Bor, MutBor}
-use Rattle.mpc_values.specs.declared.values.Word.TheVariants.{Undef}
-use Rattle.mpc_values.specs.declared.values.Obj.{Obj}
-use Rattle.mpc_values.specs.declared.owners.Owner.{Owner}
-use Rattle.memory_model.specs.Memory.{Object}
-use Rattle.memory_model.specs.Marks.{barred_to_loads, barred_to_stores, is_some_place}
+use Rattle.std.proofs.Common.{◌≡◌, ◌∙◌, ◌+◌, ◌<◌, set, Some, subst, sym, ap}
 use Rattle.memory_model.specs.Access.{with_word}
-use Rattle.block_table.specs.declared.rows.Mark.TheVariants.{Free}
-use Rattle.block_table.specs.Rows.{live, IsLive, IsNamed, AreMarked, mark_at, rows_of, may_send, is_free, is_send, is_receive, with_send, without_send, with_receive, without_receive}
-use Rattle.word_region.specs.Places.{IsFirstFit}
-use Rattle.object_heap.specs.Layout.{row_of, IsSound, HasPlaces}
-use Rattle.object_heap.specs.Objects.{key_named, object_at, object_in, span_words, with_words}
-use Rattle.object_heap.specs.Marks.{mark_of, marks_in, KeepsMarks, Remarks}
-use Rattle.object_heap.specs.Copies.{IsOneCopy, KeepsCopies, GainsCopy, LosesCopy, copy_words}
-use Rattle.object_heap.specs.Changes.{Puts, Edits, KeepsObjects, KeepsSpans, KeepsOtherSpans, Adds, Closes, IsAsBefore, base_of}
-use Rattle.object_heap.specs.Maps.{MapAgrees}
+use Rattle.block_table.specs.declared.rows.Row.{Row}
+use Rattle.block_table.specs.Rows.{IsLive, live}
+use Rattle.word_region.specs.Places.{Places}
+use Rattle.object_heap.specs.Layout.{Layout}
+use Rattle.object_heap.specs.Kept.{seen_of}
+use Rattle.object_heap.specs.Changes.{Edits, base_of}
+use Rattle.object_heap.specs.Copies.{KeepsCopies}
+use Rattle.object_heap.proofs.Rows.{live_row}
+use Rattle.object_heap.proofs.Heaps.{base_is}
+use Rattle.object_heap.proofs.Messages.{with_region, write_edits, write_copies}
 use Rattle.object_heap.proofs.heap.Heap.write.Goals as goal
 
--- src/heap.rt:131:5
 pub returns-clause-edits : goal.returns-clause-edits
-returns-clause-edits c = ?
+returns-clause-edits c =
+    let row = live_row (λ row. c.args.at < row.len) (live c.self.inside.table c.args.key)
+    (subst (λ (h : Layout). IsLive h.rows c.args.key (λ row. c.args.at < row.len)) (sym c.self.view_is) c.requires) in
+    let place : c.place-place.result ≡ row.0.base + c.args.at =
+    subst (λ (h : Layout). c.place-place.result ≡ base_of h c.args.key + c.args.at) (sym c.self.view_is) c.place-place.ensures
+    ∙ ap (λ n. n + c.args.at) (base_is (seen_of c.self.inside) c.args.key row.0 row.1) in
+    subst (λ (h : Layout). Edits h (seen_of (with_region c.self.inside c.write.new.self c.self.inside.copies)) c.args.key (λ object. with_word object c.args.at c.args.word)) c.self.view_is
+    (subst (λ (region : Places). Edits (seen_of c.self.inside) (seen_of (with_region c.self.inside region c.self.inside.copies)) c.args.key (λ object. with_word object c.args.at c.args.word)) (sym c.write.ensures)
+    (write_edits c.self.inside c.args.key c.args.at c.place-place.result c.args.word c.self.invariant row.0 row.1 row.2 place))
 
--- src/heap.rt:131:5
 pub returns-clause-copies : goal.returns-clause-copies
-returns-clause-copies c = ?
+returns-clause-copies c =
+    let row = live_row (λ row. c.args.at < row.len) (live c.self.inside.table c.args.key)
+    (subst (λ (h : Layout). IsLive h.rows c.args.key (λ row. c.args.at < row.len)) (sym c.self.view_is) c.requires) in
+    let place : c.place-place.result ≡ row.0.base + c.args.at =
+    subst (λ (h : Layout). c.place-place.result ≡ base_of h c.args.key + c.args.at) (sym c.self.view_is) c.place-place.ensures
+    ∙ ap (λ n. n + c.args.at) (base_is (seen_of c.self.inside) c.args.key row.0 row.1) in
+    subst (λ (h : Layout). KeepsCopies h (seen_of (with_region c.self.inside c.write.new.self c.self.inside.copies))) c.self.view_is
+    (subst (λ (region : Places). KeepsCopies (seen_of c.self.inside) (seen_of (with_region c.self.inside region c.self.inside.copies))) (sym c.write.ensures)
+    (write_copies c.self.inside c.args.key c.args.at c.place-place.result c.args.word c.self.invariant row.0 row.1 row.2 place))
