@@ -1,5 +1,5 @@
 //! The heap: rows over a region.
-ghost use Rattle.std.specs.Prelude.{◌≡◌, ◌≢◌, ℕ, ◌+◌, ◌<◌, ◌≤◌, ◌↔◌, [], true, false, not, IsTrue, length, replicate, slice_get, Some, None, is_some, IfOk, OnErr, OnOk, MatchOption, IfSome, IsSomeAnd};
+ghost use Rattle.std.specs.Prelude.{◌≡◌, ◌≢◌, ℕ, ◌+◌, ◌<◌, ◌≤◌, ◌↔◌, [], true, false, not, IsTrue, length, replicate, slice_get, slice_set, Some, None, is_some, IfOk, OnErr, OnOk, MatchOption, IfSome, IsSomeAnd};
 ghost use Rattle.mpc_values.specs.declared.values.Word.TheVariants.{Undef};
 ghost use Rattle.mpc_values.specs.declared.values.Obj.{Obj};
 ghost use Rattle.mpc_values.specs.declared.owners.Owner.{Owner};
@@ -8,7 +8,8 @@ ghost use Rattle.memory_model.specs.Marks.{barred_to_loads, barred_to_stores, is
 ghost use Rattle.memory_model.specs.Access.{with_word};
 ghost use Rattle.block_table.specs.declared.rows.Mark.TheVariants.{Free};
 ghost use Rattle.block_table.specs.Rows.{live, IsLive, IsNamed, AreMarked, mark_at, rows_of, may_send, is_free, is_send, is_receive, with_send, without_send, with_receive, without_receive};
-ghost use Rattle.word_region.specs.Places.{IsFirstFit};
+ghost use Rattle.word_region.specs.Places.{IsFirstFit, Releases, Shifts};
+ghost use Rattle.mpi_copy.specs.Copies.{Holds, Lands};
 ghost use Rattle.object_heap.specs.Layout.{row_of, IsSound, HasPlaces};
 ghost use Rattle.object_heap.specs.Objects.{key_named, object_at, object_in, span_words, with_words};
 ghost use Rattle.object_heap.specs.Marks.{mark_of, marks_in, KeepsMarks, Remarks};
@@ -131,6 +132,7 @@ impl Heap {
     /// Changes the word of a place of a live key's object, and nothing else.
     pub fn write(&mut self, key: usize, at: u32, word: Word)
         requires { IsLive self.old.rows key (λ row. at < row.len) }
+        ensures cells { self.new.cells ≡ slice_set self.old.cells (base_of self.old key + at) (Some word) }
         ensures edits { Edits self.old self.new key (λ object. with_word object at word) }
         ensures marks { KeepsMarks self.old self.new }
         ensures spans { KeepsSpans self.old self.new }
@@ -162,6 +164,7 @@ impl Heap {
     pub fn mark_send(&mut self, key: usize, at: u32, len: u32)
         requires within { IsLive self.old.rows key (λ row. at + len ≤ row.len) }
         requires may { AreMarked self.old.rows key at len may_send }
+        ensures cells { self.new.cells ≡ self.old.cells }
         ensures marks { Remarks self.old self.new key at len with_send }
         ensures objects { KeepsObjects self.old self.new }
         ensures spans { KeepsSpans self.old self.new }
@@ -174,6 +177,7 @@ impl Heap {
     pub fn mark_recv(&mut self, key: usize, at: u32, len: u32)
         requires within { IsLive self.old.rows key (λ row. at + len ≤ row.len) }
         requires may { AreMarked self.old.rows key at len is_free }
+        ensures cells { self.new.cells ≡ self.old.cells }
         ensures marks { Remarks self.old self.new key at len with_receive }
         ensures objects { KeepsObjects self.old self.new }
         ensures spans { KeepsSpans self.old self.new }
@@ -186,6 +190,7 @@ impl Heap {
     pub fn unmark_send(&mut self, key: usize, at: u32, len: u32)
         requires within { IsLive self.old.rows key (λ row. at + len ≤ row.len) }
         requires marked { AreMarked self.old.rows key at len is_send }
+        ensures cells { self.new.cells ≡ self.old.cells }
         ensures marks { Remarks self.old self.new key at len without_send }
         ensures objects { KeepsObjects self.old self.new }
         ensures spans { KeepsSpans self.old self.new }
@@ -198,6 +203,7 @@ impl Heap {
     pub fn unmark_recv(&mut self, key: usize, at: u32, len: u32)
         requires within { IsLive self.old.rows key (λ row. at + len ≤ row.len) }
         requires marked { AreMarked self.old.rows key at len is_receive }
+        ensures cells { self.new.cells ≡ self.old.cells }
         ensures marks { Remarks self.old self.new key at len without_receive }
         ensures objects { KeepsObjects self.old self.new }
         ensures spans { KeepsSpans self.old self.new }
@@ -238,6 +244,7 @@ impl Heap {
         requires fits { from.len ≤ to.len }
         requires sent { AreMarked self.old.rows from.key from.at from.len is_send }
         requires received { AreMarked self.old.rows to.key to.at to.len is_receive }
+        ensures cells { Shifts self.old.cells self.new.cells (base_of self.old from.key + from.at) (base_of self.old to.key + to.at) from.len }
         ensures edits { Edits self.old self.new to.key (λ object. with_words object to.at (span_words self.old from)) }
         ensures marks { KeepsMarks self.old self.new }
         ensures spans { KeepsSpans self.old self.new }
@@ -254,6 +261,7 @@ impl Heap {
         requires { HasPlaces self.old from }
         ensures first { IfOk result (λ held. IsFirstFit self.old.cells from.len held.base) }
         ensures len { IfOk result (λ held. held.len ≡ from.len) }
+        ensures cells { IfOk result (λ held. Holds self.old.cells self.new.cells (base_of self.old from.key + from.at) held.base from.len) }
         ensures words { IfOk result (λ held. copy_words self.new held ≡ span_words self.old from) }
         ensures gains { IfOk result (λ held. GainsCopy self.old self.new held) }
         ensures rows { self.new.rows ≡ self.old.rows }
@@ -276,6 +284,7 @@ impl Heap {
         requires copy { IsOneCopy self.old held }
         requires target { HasPlaces self.old to }
         requires fits { held.len ≤ to.len }
+        ensures cells { Lands self.old.cells self.new.cells held.base (base_of self.old to.key + to.at) held.len }
         ensures edits { Edits self.old self.new to.key (λ object. with_words object to.at (copy_words self.old held)) }
         ensures loses { LosesCopy self.old self.new held }
         ensures marks { KeepsMarks self.old self.new }
@@ -289,6 +298,7 @@ impl Heap {
     /// Gives the range of a held message back that is not received. It takes no memory.
     pub fn discard(&mut self, held: Held)
         requires { IsOneCopy self.old held }
+        ensures cells { Releases self.old.cells self.new.cells held.base held.len }
         ensures loses { LosesCopy self.old self.new held }
         ensures rows { self.new.rows ≡ self.old.rows }
         ensures objects { KeepsObjects self.old self.new }
