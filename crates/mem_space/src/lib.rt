@@ -1,0 +1,10 @@
+//! The one heap of all tasks: places are named by the asking task and a pointer word, each access does what the
+//! definitions of memory say or has their fault, and messages are moved inside the heap.
+#![tactic(auto)]
+
+mod access;
+mod first;
+mod messages;
+mod space;
+
+pub use space::Space;
