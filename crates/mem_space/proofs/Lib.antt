@@ -1,0 +1,4 @@
+pub mod Heaps
+pub mod Ranges
+pub mod Counts
+pub mod Stores
