@@ -10,10 +10,10 @@ use Rattle.memory_model.specs.Memory.{Memory, Object, object_of}
 use Rattle.memory_model.specs.Marks.{Places, is_some_place}
 use Rattle.memory_model.specs.Ranges.{Range, Within, NoRange, range_in, range_of}
 
-le_true : (a b : ℕ) → a ≤ b → nat_le a b ≡ true
+pub le_true : (a b : ℕ) → a ≤ b → nat_le a b ≡ true
 le_true a b h = grind (arith, nat_tests)
 
-le_false : (a b : ℕ) → b < a → nat_le a b ≡ false
+pub le_false : (a b : ℕ) → b < a → nat_le a b ≡ false
 le_false a b h = grind (arith, nat_tests)
 
 module _ (owner_of : Obj → Owner) (barred : Places) (m : Memory) (obj : Obj) (at count : ℕ) where

@@ -20,7 +20,8 @@ use Rattle.object_heap.specs.Changes.{Edits, Puts}
 use Rattle.mem_space.specs.Spaces.{Space, owner_for, objects_in}
 use Rattle.mem_space.specs.Ranges.{IsRange, IsNoRange, barred}
 use Rattle.mem_space.specs.Accesses.{Answered, loaded}
-use Rattle.mem_space.proofs.Heaps.{Found, shows_given}
+use Rattle.object_heap.proofs.Heaps.{shows_given}
+use Rattle.mem_space.proofs.Heaps.{Found}
 use Rattle.mem_space.proofs.Ranges.{outside, touched, within}
 use Rattle.mem_space.proofs.Counts.{SameSizes, sizes_put}
 

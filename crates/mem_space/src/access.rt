@@ -1,5 +1,5 @@
 //! The accesses of tasks: load, store, and the making and ending of objects.
-ghost use Rattle.std.specs.Prelude.{◌≡◌, ◌+◌, ◌≤◌, nat_le, IfOk, OnErr, Ok, Some};
+ghost use Rattle.std.specs.Prelude.{◌≡◌, ◌+◌, ◌<◌, ◌≤◌, IfOk, MatchOption, OnErr, Ok, Some};
 ghost use Rattle.mpc_values.specs.declared.values.Obj.TheVariants.{Dyn};
 ghost use Rattle.mpc_values.specs.declared.answers.Answer.TheVariants.{Gives};
 ghost use Rattle.mpc_values.specs.declared.owners.Owner.TheVariants.{Task};
@@ -8,8 +8,8 @@ ghost use Rattle.memory_model.specs.Access.{Objects};
 ghost use Rattle.memory_model.specs.Access as access;
 ghost use Rattle.object_heap.specs.Objects.{Shows, object_in};
 ghost use Rattle.object_heap.specs.Marks.{marks_in};
-ghost use Rattle.mem_space.specs.Spaces.{IsTask, owner_for, objects_in};
-ghost use Rattle.mem_space.specs.Words.{is_live_block};
+ghost use Rattle.mem_space.specs.Spaces.{IsTask, owner_for, made_in, objects_in};
+ghost use Rattle.mem_space.specs.Words.{is_live_block, live_of};
 ghost use Rattle.mem_space.specs.Places.{AccessKeeps, IsAsBefore};
 ghost use Rattle.mem_space.specs.Accesses.{Comes, loaded, done, given};
 
@@ -48,10 +48,12 @@ impl Space {
         ensures keeps { AccessKeeps self.old self.new task }
         ensures err { OnErr result (IsAsBefore self.old self.new) }
     {
-        if self.has_room(task, len) {
-            Ok(Ok(self.make(task, RowKind::Local, len)?))
-        } else {
-            Ok(Err(Fault::StackFull))
+        match self.words_with(task, len) {
+            Some(words) => {
+                let local = self.make(task, RowKind::Local, len, words)?;
+                Ok(Ok(local))
+            }
+            None => Ok(Err(Fault::StackFull)),
         }
     }
 
@@ -80,10 +82,12 @@ impl Space {
             return Ok(Word::Null);
         }
         let len = n as u32;
-        if self.has_room(task, len) {
-            self.make(task, RowKind::Block, len)
-        } else {
-            Ok(Word::Null)
+        match self.words_with(task, len) {
+            Some(words) => {
+                let block = self.make(task, RowKind::Block, len, words)?;
+                Ok(block)
+            }
+            None => Ok(Word::Null),
         }
     }
 
@@ -106,18 +110,25 @@ impl Space {
 }
 
 impl Space {
-    /// Whether a task may have so many words more in live locals and blocks.
-    fn has_room(&self, task: u32, len: u32) -> bool
+    /// How many words a task would have in live locals and blocks with so many more, where the quota allows them.
+    fn words_with(&self, task: u32, len: u32) -> Option<u32>
         requires { IsTask self.now task }
-        ensures { (m : Memories) → Shows self.now.heap m → result ≡ nat_le (access.live_words task (objects_in self.now m task) + len) self.now.quota }
+        ensures { MatchOption result (self.now.quota < live_of self.now.heap task (made_in self.now task) + len)
+            (λ words. (words ≡ live_of self.now.heap task (made_in self.now task) + len) × (words ≤ self.now.quota)) }
     {
-        self.used[task as usize] as u64 + len as u64 <= self.quota as u64
+        let words = self.used[task as usize] as u64 + len as u64;
+        if words <= self.quota as u64 {
+            Some(words as u32)
+        } else {
+            None
+        }
     }
 
-    /// Makes an object of a task under its next name, all its words unset, where there is room for it.
-    fn make(&mut self, task: u32, kind: RowKind, len: u32) -> Result<Word, Memory>
+    /// Makes an object of a task under its next name, all its words unset. With it the task has so many live words.
+    fn make(&mut self, task: u32, kind: RowKind, len: u32, words: u32) -> Result<Word, Memory>
         requires task { IsTask self.old task }
-        requires room { (m : Memories) → Shows self.old.heap m → access.live_words task (objects_in self.old m task) + len ≤ self.old.quota }
+        requires words { words ≡ live_of self.old.heap task (made_in self.old task) + len }
+        requires room { words ≤ self.old.quota }
         ensures comes { IfOk result (λ word. Comes self.old self.new task (λ o. access.makes task o kind len) (Ok (Gives word))) }
         ensures keeps { AccessKeeps self.old self.new task }
         ensures err { OnErr result (IsAsBefore self.old self.new) }
@@ -129,7 +140,7 @@ impl Space {
         let obj = Obj::Dyn(made);
         self.heap.add(Owner::Task(task), obj, kind, len)?;
         self.made[place] = made;
-        self.used[place] += len;
+        self.used[place] = words;
         Ok(Word::Ptr { obj, at: 0 })
     }
 

@@ -52,6 +52,7 @@ impl Space {
         requires { IsMarked self.old span (if send then is_send else is_receive) }
         ensures { (places : Places) → IsPlaces self.old span places → Remarks self.old self.new places (if send then without_send else without_receive) }
     {
+        self.heap.is_sound();
         if send {
             self.heap.unmark_send(span.key, span.at, span.len);
         } else {
@@ -67,6 +68,7 @@ impl Space {
         requires fits { from.len ≤ to.len }
         ensures { SendsOver self.old self.new from to }
     {
+        self.heap.is_sound();
         self.heap.send_over(from, to);
     }
 
@@ -76,7 +78,9 @@ impl Space {
         ensures ok { IfOk result (λ held. Holds self.old self.new from held) }
         ensures err { OnErr result (self.new ≡ self.old) }
     {
-        self.heap.hold(from)
+        self.heap.is_sound();
+        let held = self.heap.hold(from)?;
+        Ok(held)
     }
 
     /// Copies a held message to the first places of its receive and releases its range. It takes no memory.
@@ -86,6 +90,7 @@ impl Space {
         requires fits { held.len ≤ to.len }
         ensures { Lands self.old self.new held to }
     {
+        self.heap.is_sound();
         self.heap.land(held, to);
     }
 

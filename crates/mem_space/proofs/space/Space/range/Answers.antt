@@ -2,13 +2,15 @@ use Rattle.std.proofs.Common.{◌≡◌, ◌+◌, ◌≤◌, Bool, true, false, 
 use Rattle.mpc_values.specs.declared.owners.Owner.{Owner}
 use Rattle.mpc_values.specs.declared.values.Word.{Word}
 use Rattle.memory_model.specs.Marks.{is_some_place}
+use Rattle.block_table.specs.declared.rows.Row.{Row}
 use Rattle.block_table.specs.Rows.{live, IsLive, IsNamed}
 use Rattle.object_heap.specs.Layout.{HasPlaces}
 use Rattle.object_heap.specs.Objects.{key_named}
 use Rattle.object_heap.specs.Marks.{marks_in}
 use Rattle.mem_space.specs.Spaces.{Space, owner_for}
 use Rattle.mem_space.specs.Ranges.{IsRange, IsNoRange, barred}
-use Rattle.mem_space.proofs.Heaps.{Found, found, row_live}
+use Rattle.object_heap.proofs.Rows.{row_live}
+use Rattle.mem_space.proofs.Heaps.{Found, found}
 use Rattle.mem_space.proofs.Stores.{past_row, touched_row, range_there}
 use Rattle.mem_space.proofs.space.Space.range.Goals as goal
 use Rattle.mem_space.proofs.space.Space.range.Goals.{After-row}
@@ -17,7 +19,7 @@ found_there : (c : After-row) → Found c.args.self.now.heap (owner_for c.args.s
 found_there c =
     subst (λ o. Found c.args.self.now.heap o c.in-Ptr.obj c.row.result) c.owner_for.ensures
     (subst (λ (s : Space). Found s.heap c.owner_for.result c.in-Ptr.obj c.row.result) c.self.view_is
-    (found c.self.inside.heap c.in-Some.key c.owner_for.result c.in-Ptr.obj c.row.result c.in-Some.ensures.found c.row.ensures.named c.row.ensures.object c.row.ensures.lives))
+    (found c.self.inside.heap c.owner_for.result c.in-Ptr.obj c.row.result (c.row.ensures.object c.owner_for.result c.in-Ptr.obj c.in-Some.ensures.found)))
 
 named_there : (c : After-row) → IsNamed c.args.self.now.heap.rows c.in-Some.key (owner_for c.args.self.now.sharing c.args.task c.in-Ptr.obj) c.in-Ptr.obj
 named_there c =
@@ -32,7 +34,7 @@ key_there c =
 live_there : (c : After-row) → c.in-Ptr.place + c.args.count ≤ c.row.result.len → IsLive c.args.self.now.heap.rows c.in-Some.key (λ row. c.in-Ptr.place + c.args.count ≤ row.len)
 live_there c long =
     subst (λ (s : Space). IsLive s.heap.rows c.in-Some.key (λ row. c.in-Ptr.place + c.args.count ≤ row.len)) c.self.view_is
-    (row_live (live c.self.inside.heap.rows c.in-Some.key) c.row.result (c.in-Ptr.place + c.args.count) c.row.ensures.row long)
+    (row_live (λ (row : Row). c.in-Ptr.place + c.args.count ≤ row.len) (live c.self.inside.heap.rows c.in-Some.key) c.row.result (sym c.row.ensures.row) long)
 
 pub returns-then-row-place-clause-err : goal.returns-then-row-place-clause-err
 returns-then-row-place-clause-err c =
