@@ -5,3 +5,4 @@ pub mod Stores
 pub mod Marked
 pub mod Copied
 pub mod Makes
+pub mod Images

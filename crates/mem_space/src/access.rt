@@ -1,5 +1,5 @@
 //! The accesses of tasks: load, store, and the making and ending of objects.
-ghost use Rattle.std.specs.Prelude.{◌≡◌, ◌+◌, ◌<◌, ◌≤◌, IfOk, MatchOption, OnErr, Ok, Some};
+ghost use Rattle.std.specs.Prelude.{◌≡◌, ◌+◌, ◌<◌, ◌≤◌, IfOk, pos, ◌<ℤ◌, ◌⊎◌, MatchOption, OnErr, Ok, Some};
 ghost use Rattle.mpc_values.specs.declared.values.Obj.TheVariants.{Dyn};
 ghost use Rattle.mpc_values.specs.declared.answers.Answer.TheVariants.{Gives};
 ghost use Rattle.mpc_values.specs.declared.owners.Owner.TheVariants.{Task};
@@ -78,10 +78,9 @@ impl Space {
         ensures keeps { AccessKeeps self.old self.new task }
         ensures err { OnErr result (IsAsBefore self.old self.new) }
     {
-        if n < 0 || (u32::MAX as i64) < n {
+        let Some(len) = block_len(n, self.quota) else {
             return Ok(Word::Null);
-        }
-        let len = n as u32;
+        };
         match self.words_with(task, len) {
             Some(words) => {
                 let block = self.make(task, RowKind::Block, len, words)?;
@@ -201,5 +200,16 @@ fn told(word: Word) -> Result<Word, Fault>
         Word::Ptr { .. } => Ok(word),
         Word::Comm(_) => Ok(word),
         Word::Req(_) => Ok(word),
+    }
+}
+
+/// The length of a block of so many words, where it is no negative number and no more than the quota.
+fn block_len(n: i64, quota: u32) -> Option<u32>
+    ensures { MatchOption result ((n <ℤ pos 0) ⊎ (pos quota <ℤ n)) (λ len. n ≡ pos len) }
+{
+    if n < 0 || (quota as i64) < n {
+        None
+    } else {
+        Some(n as u32)
     }
 }

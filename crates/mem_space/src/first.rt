@@ -1,5 +1,5 @@
 //! The static variables at the start.
-ghost use Rattle.std.specs.Prelude.{◌≡◌, ◌<◌, ◌≤◌, ◌++◌, ◌∷◌, [], true, length, Some, None, is_some, OnOk, List, All, ℕ};
+ghost use Rattle.std.specs.Prelude.{◌≡◌, ◌^◌, ◌<◌, ◌≤◌, ◌++◌, ◌∷◌, [], true, length, Some, None, is_some, OnOk, IsTrue, ◌↔◌, List, All, ℕ};
 ghost use Rattle.mpc_values.specs.declared.values.Obj.{Obj};
 ghost use Rattle.mpc_values.specs.declared.values.Obj.TheVariants.{Glob};
 ghost use Rattle.mpc_values.specs.declared.owners.Owner.{Owner};
@@ -45,10 +45,9 @@ fn add_image(heap: &mut Heap, globals: &[StaticVar], owner: Owner) -> Result<(),
     ensures marks { KeepsMarks heap.old heap.new }
     ensures copies { KeepsCopies heap.old heap.new }
 {
-    let level = level_of(owner);
     let mut number = 0u32;
     for var in globals {
-        if var.level == level {
+        if is_in_image(var.level, owner) {
             add_variable(heap, owner, number, var)?;
         }
         number += 1;
@@ -56,13 +55,13 @@ fn add_image(heap: &mut Heap, globals: &[StaticVar], owner: Owner) -> Result<(),
     Ok(())
 }
 
-/// The level of the variables in an owner's image, none for a task.
-fn level_of(owner: Owner) -> Option<Level>
-    ensures { result ≡ owner_level owner }
+/// Whether a variable of this level stands in an owner's image: a task's has those without a level.
+fn is_in_image(level: Option<Level>, owner: Owner) -> bool
+    ensures { IsTrue result ↔ level ≡ owner_level owner }
 {
     match owner {
-        Owner::Task(_) => None,
-        Owner::Inst { level, .. } => Some(level),
+        Owner::Task(_) => level.is_none(),
+        Owner::Inst { level: of, .. } => level == Some(of),
     }
 }
 
@@ -85,8 +84,9 @@ fn add_variable(heap: &mut Heap, owner: Owner, number: u32, var: &StaticVar) -> 
 
 /// Changes all words of an object that has as many.
 fn fill(heap: &mut Heap, key: usize, words: &[Word])
-    requires { IsLive heap.old.rows key (λ row. row.len ≡ length words.now) }
-    ensures puts { (owner : Owner) (obj : Obj) (object : Object) → IsNamed heap.old.rows key owner obj → object_in heap.old owner obj ≡ Some object →
+    requires there { IsLive heap.old.rows key (λ row. row.len ≡ length words.now) }
+    requires short { length words.now < 2 ^ 32 }
+    ensures puts { (owner : Owner) (obj : Obj) (object : Object) → IsNamed heap.old.rows key owner obj → object_in heap.old owner obj ≡ Some object → length object.words ≡ length words.now →
         Puts heap.old heap.new owner obj (Some (record { kind = object.kind; words = words.now })) }
     ensures marks { KeepsMarks heap.old heap.new }
     ensures copies { KeepsCopies heap.old heap.new }

@@ -13,8 +13,13 @@ counted_words c =
     let counted = c.self.invariant.counted in
     c.index.ensures ∙ (get_or_default c.self.inside.used.items c.args.task c.index.result.now 0 (omega (arith, counted.all_used)) ∙ (counted.each c.args.task below).words)
 
-pub returns-then-words : goal.returns-then-words
-returns-then-words c = ?
+pub returns-then-words-self : goal.returns-then-words-self
+returns-then-words-self c =
+    let live = counted_words (goal.at.returns-then-words-self c).After-index in
+    subst (λ (s : Space). (c.index.result.now + c.args.len ≡ live_of s.heap c.args.task (made_in s c.args.task) + c.args.len) × (c.index.result.now + c.args.len ≤ s.quota)) c.self.view_is
+    (omega (arith, live), omega arith)
 
-pub returns-else-words : goal.returns-else-words
-returns-else-words c = ?
+pub returns-else-words-self : goal.returns-else-words-self
+returns-else-words-self c =
+    let live = counted_words (goal.at.returns-else-words-self c).After-index in
+    subst (λ (s : Space). s.quota < live_of s.heap c.args.task (made_in s c.args.task) + c.args.len) c.self.view_is (omega (arith, live))
