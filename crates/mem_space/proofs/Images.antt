@@ -1,14 +1,16 @@
 -- Images of static variables, owner by owner and variable by variable.
-use Rattle.std.proofs.Common.{◌≡◌, ◌≢◌, ℕ, zero, suc, ◌+◌, ◌<◌, ◌≤◌, true, List, [], ◌∷◌, ◌++◌, length, get_or, slice_get, take, drop, set, Option, Some, None, is_some, refl, sym, ap, subst, ◌∙◌, inl, inr, ◌⊎◌, arith, append_assoc, length-append}
+use Rattle.std.proofs.Common.{◌≡◌, ◌≢◌, ℕ, zero, suc, ◌+◌, ◌<◌, ◌≤◌, true, List, [], ◌∷◌, ◌++◌, length, get_or, slice_get, slice_index, take, drop, set, replicate, Option, Some, None, is_some, refl, sym, ap, subst, ◌∙◌, inl, inr, ◌⊎◌, arith, append_assoc, length-append}
 use Rattle.std.specs.List.{Contains}
 use Rattle.std.proofs.lemmas.Grind.{common_steps}
 use Rattle.std.proofs.lemmas.Bool.{cases_eq, cases_lt, false≢true}
 use Rattle.std.proofs.lemmas.Option.{slice_get_within}
-use Rattle.std.proofs.lemmas.List.Elements.{Contains-append_cases, Contains-append_left, Contains-append_right}
+use Rattle.std.proofs.lemmas.List.{length-replicate}
+use Rattle.std.proofs.lemmas.List.Elements.{All-nil, Contains-append_cases, Contains-append_left, Contains-append_right}
 use Rattle.mpc_values.specs.declared.values.Word.{Word}
 use Rattle.mpc_values.specs.declared.values.Obj.{Obj}
 use Rattle.mpc_values.specs.declared.values.Obj.TheVariants.{Glob, Dyn}
 use Rattle.mpc_values.specs.declared.owners.Owner.{Owner}
+use Rattle.mpc_values.specs.declared.owners.Owner.TheVariants.{Task}
 use Rattle.mpc_values.specs.declared.owners.StaticVar.{StaticVar}
 use Rattle.memory_model.specs.Memory.{Object}
 use Rattle.memory_model.specs.Access.{with_word}
@@ -19,9 +21,10 @@ use Rattle.tls_levels.specs.Owners.{owner_level}
 use Rattle.object_heap.specs.Layout.{Layout}
 use Rattle.object_heap.specs.Objects.{object_in, object_at, object_by, object_where, key_named, words_from}
 use Rattle.object_heap.specs.Marks.{KeepsMarks}
-use Rattle.object_heap.specs.Copies.{KeepsCopies}
+use Rattle.object_heap.specs.Copies.{IsCopy, AreCopies, KeepsCopies}
 use Rattle.object_heap.specs.Changes.{Puts, Edits}
 use Rattle.mem_space.specs.First.{HasFirst, first_object}
+use Rattle.mem_space.specs.Kept.{IsCounted, AreCounted}
 
 -- whose variable of a number stands already: those of owners before, and those of this one below a number
 abbrev pub IsDone : List Owner → Owner → ℕ → Owner → ℕ → Type 0
@@ -74,7 +77,6 @@ module _ (globals : List StaticVar) (before : List Owner) (owner : Owner) where
         | inl listed ↦ inl listed
         | inr mine ↦ inr (only_one other mine)
       ]
-
 
       finished : (other : Owner) (number : ℕ) (var : StaticVar) → Contains (before ++ owner ∷ []) other → slice_get globals number ≡ Some var → IsDone before owner (length globals) other number
       finished other number var there got = elim (split before other there) [
@@ -227,3 +229,36 @@ variable_added globals before owner n var old new here at absent present has = b
     by None none = some_added globals before owner n var old new here at (absent none) has
     by (Some object) lives =
         subst (HasSome globals before owner (n + 1)) (sym (present (ap is_some lives))) (some_there globals before owner n var old here at object lives has)
+
+no_made : (globals : List StaticVar) (owners : List Owner) (heap : Layout) (task number : ℕ) → HasFirst globals owners heap → object_in heap (Task task) (Dyn number) ≡ None
+no_made globals owners heap task number has = by (object_in heap (Task task) (Dyn number)) refl
+  where
+    by : (o : Option Object) → object_in heap (Task task) (Dyn number) ≡ o → object_in heap (Task task) (Dyn number) ≡ None
+    by None is = is
+    by (Some object) is = let it = has.only (Task task) (Dyn number) object is in let e = it.2 in absurd (cc)
+
+-- no task has made an object at the start
+pub first_counted : (globals : List StaticVar) (owners : List Owner) (heap : Layout) (quota tasks : ℕ) (made used : List ℕ) → HasFirst globals owners heap → made ≡ replicate tasks 0 → used ≡ replicate tasks 0
+    → AreCounted heap quota tasks made used
+first_counted globals owners heap quota tasks made used has made_is used_is = record {
+  all_made = ap length made_is ∙ length-replicate tasks 0;
+  all_used = ap length used_is ∙ length-replicate tasks 0;
+  each = λ task below.
+      let m : get_or made task 0 ≡ 0 = ap (λ l. get_or l task 0) made_is ∙ get_or-replicate_default tasks task in
+      let u : get_or used task 0 ≡ 0 = ap (λ l. get_or l task 0) used_is ∙ get_or-replicate_default tasks task in
+      subst (λ n. IsCounted heap quota task n (get_or used task 0)) (sym m) (subst (λ n. IsCounted heap quota task 0 n) (sym u) (record {
+        first = no_made globals owners heap task 0 has;
+        later = λ number past. no_made globals owners heap task number has;
+        words = refl;
+        within = omega arith;
+      }));
+}
+  where
+    get_or-replicate_default : (n k : ℕ) → slice_index (replicate n 0) k ≡ 0
+    get_or-replicate_default zero k = refl
+    get_or-replicate_default (suc n) zero = refl
+    get_or-replicate_default (suc n) (suc k) = get_or-replicate_default n k
+
+-- a new heap has no copies
+pub no_copies : (h : Layout) → h.copies ≡ 0 → AreCopies h []
+no_copies h none = record { count = sym none; each = All-nil (IsCopy h); apart = tt }

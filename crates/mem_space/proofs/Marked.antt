@@ -60,15 +60,15 @@ module _ (s : Space) (task : ℕ) (at : Word) (count : ℕ) (span : row.Span) wh
   may_count r few p from until =
       ap may_send (mark_there false r p)
       ∙ sendable (mark_of s.heap (owner_for s.sharing task r.obj) r.obj p)
-        (none_in (λ q. is_receive (mark_of s.heap (owner_for s.sharing task r.obj) r.obj q)) span.at count p r.allowed from (omega (arith, r.len)))
-        (few r.obj span.at p r.names from (omega (arith, r.len)))
+      (none_in (λ q. is_receive (mark_of s.heap (owner_for s.sharing task r.obj) r.obj q)) span.at count p r.allowed from (omega (arith, r.len)))
+      (few r.obj span.at p r.names from (omega (arith, r.len)))
 
   -- each place of a range that may be stored to is free
   pub all_free : (r : IsRange s task at count true span) → AreMarked s.heap.rows span.key span.at span.len is_free
   all_free r p from until =
       ap is_free (mark_there true r p)
       ∙ receivable (mark_of s.heap (owner_for s.sharing task r.obj) r.obj p)
-        (none_in (λ q. is_send (mark_of s.heap (owner_for s.sharing task r.obj) r.obj q) || is_receive (mark_of s.heap (owner_for s.sharing task r.obj) r.obj q)) span.at count p r.allowed from (omega (arith, r.len)))
+      (none_in (λ q. is_send (mark_of s.heap (owner_for s.sharing task r.obj) r.obj q) || is_receive (mark_of s.heap (owner_for s.sharing task r.obj) r.obj q)) span.at count p r.allowed from (omega (arith, r.len)))
 
 -- marks of places are marks of the row
 pub rows_marked : (s : Space) (span : row.Span) (test : Mark → Bool) → IsSound s.heap → IsMarked s span test → AreMarked s.heap.rows span.key span.at span.len test
