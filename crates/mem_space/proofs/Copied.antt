@@ -1,14 +1,12 @@
 -- Words that are copied between places.
-use Rattle.std.proofs.Common.{◌≡◌, ℕ, ◌+◌, ◌<◌, ◌≤◌, nat_le, true, if◌then◌else◌, List, ◌++◌, length, take, drop, Option, Some, None, refl, sym, ap, subst, ◌∙◌, arith, length-append, length-take, length-drop}
+use Rattle.std.proofs.Common.{◌≡◌, ℕ, ◌+◌, ◌≤◌, if◌then◌else◌, List, ◌++◌, length, take, drop, Some, refl, sym, ap, subst, ◌∙◌, arith, length-append, length-take, length-drop}
 use Rattle.mpc_values.specs.declared.values.Word.{Word}
-use Rattle.mpc_values.specs.declared.values.Obj.{Obj}
-use Rattle.mpc_values.specs.declared.owners.Owner.{Owner}
 use Rattle.memory_model.specs.declared.kinds.Span.{Span}
-use Rattle.memory_model.specs.Memory.{Memory, Object, object_of, with_object}
+use Rattle.memory_model.specs.Memory.{Memory, object_of, with_object}
 use Rattle.memory_model.specs.Ranges.{overwritten, words_in, words_at, written_in, with_words_at}
 use Rattle.block_table.specs.declared.rows.Span as row
 use Rattle.object_heap.specs.Layout.{Layout, IsSound}
-use Rattle.object_heap.specs.Objects.{Shows, object_in, part, span_words, with_words}
+use Rattle.object_heap.specs.Objects.{Shows, part, span_words, with_words}
 use Rattle.mpi_copy.specs.declared.Held.{Held}
 use Rattle.object_heap.specs.Marks.{KeepsMarks}
 use Rattle.object_heap.specs.Copies.{copy_words, KeepsCopies, GainsCopy, LosesCopy}

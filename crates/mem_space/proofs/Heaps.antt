@@ -1,5 +1,5 @@
 -- Objects of a heap by their rows and spans.
-use Rattle.std.proofs.Common.{◌≡◌, ℕ, ◌+◌, ◌≤◌, true, List, length, take, drop, Option, Some, None, IsSomeAnd, refl, sym, ap, ◌∙◌, arith, length-take, length-drop}
+use Rattle.std.proofs.Common.{◌≡◌, ◌+◌, ◌≤◌, length, Option, Some, None, IsSomeAnd, refl, sym, ◌∙◌, arith}
 use Rattle.mpc_values.specs.declared.values.Obj.{Obj}
 use Rattle.mpc_values.specs.declared.owners.Owner.{Owner}
 use Rattle.memory_model.specs.Memory.{Memory, Object}
@@ -7,7 +7,7 @@ use Rattle.block_table.specs.declared.rows.Row.{Row}
 use Rattle.block_table.specs.declared.rows.Span.{Span}
 use Rattle.block_table.specs.Rows.{live}
 use Rattle.object_heap.specs.Layout.{Layout, IsSound, IsSpan}
-use Rattle.object_heap.specs.Objects.{Shows, object_in, object_at, part, words_from}
+use Rattle.object_heap.specs.Objects.{Shows, object_in, object_at, words_from}
 use Rattle.object_heap.specs.Changes.{KeepsObjects}
 use Rattle.object_heap.proofs.Rows.{live_at}
 use Rattle.object_heap.proofs.Words.{length_words}

@@ -1,5 +1,5 @@
 -- Objects that are made and ended.
-use Rattle.std.proofs.Common.{◌≡◌, ℕ, ◌+◌, ◌≤◌, nat_le, Bool, true, false, not, if◌then◌else◌, List, length, get_or, replicate, Option, Some, None, ℤ, pos, negsuc, ◌<ℤ◌, ◌<◌, ◌⊎◌, inl, inr, refl, sym, ap, subst, ◌∙◌, arith}
+use Rattle.std.proofs.Common.{◌≡◌, ℕ, ◌+◌, ◌≤◌, nat_le, Bool, true, false, not, if◌then◌else◌, List, length, get_or, replicate, Some, None, ℤ, pos, negsuc, ◌<ℤ◌, ◌<◌, ◌⊎◌, inl, inr, refl, sym, ap, ◌∙◌, arith}
 use Rattle.std.proofs.lemmas.Bool.{false≢true}
 use Rattle.std.proofs.lemmas.Int.{ints}
 use Rattle.mpc_values.specs.declared.values.Word.TheVariants.{Undef, Null, Ptr}
@@ -9,9 +9,9 @@ use Rattle.mpc_values.specs.declared.answers.Answer.TheVariants.{Done, Gives}
 use Rattle.mpc_values.specs.declared.faults.Fault.TheVariants.{PendingDrop, StackFull}
 use Rattle.memory_model.specs.declared.kinds.Kind.{Kind}
 use Rattle.memory_model.specs.declared.kinds.Kind.TheVariants.{Local, Block}
-use Rattle.memory_model.specs.Memory.{Memory, Object, object_of, with_object, without}
+use Rattle.memory_model.specs.Memory.{Memory, Object, with_object, without}
 use Rattle.memory_model.specs.Marks.{barred_to_stores, is_some_place}
-use Rattle.memory_model.specs.Access.{Access, Answers, Breaks, makes, new, malloc, live_words, drop, drop_in}
+use Rattle.memory_model.specs.Access.{Answers, Breaks, makes, new, malloc, live_words, drop, drop_in}
 use Rattle.object_heap.specs.Layout.{Layout}
 use Rattle.object_heap.specs.Objects.{Shows, object_in}
 use Rattle.object_heap.specs.Marks.{marks_in}

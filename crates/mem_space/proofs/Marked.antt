@@ -1,22 +1,20 @@
 -- Marks of places by their spans.
-use Rattle.std.proofs.Common.{◌≡◌, ℕ, zero, suc, ◌+◌, ◌<◌, ◌≤◌, Bool, true, false, ◌||◌, cond, if◌then◌else◌, length, Option, Some, None, Ok, refl, sym, ap, subst, ◌∙◌, inl, inr, arith}
+use Rattle.std.proofs.Common.{◌≡◌, ℕ, zero, suc, ◌+◌, ◌<◌, ◌≤◌, Bool, true, false, ◌||◌, if◌then◌else◌, refl, sym, ap, subst, ◌∙◌, inl, inr, arith}
 use Rattle.std.specs.List.{list_any, range_with_len}
 use Rattle.std.proofs.lemmas.Bool.{false≢true, cases_lt}
 use Rattle.std.proofs.lemmas.Bool.Decides.{nat_tests}
 use Rattle.mpc_values.specs.declared.values.Word.{Word}
-use Rattle.mpc_values.specs.declared.values.Word.TheVariants.{Ptr}
 use Rattle.mpc_values.specs.declared.values.Obj.{Obj}
 use Rattle.mpc_values.specs.declared.owners.Owner.{Owner}
 use Rattle.memory_model.specs.declared.kinds.Span.{Span}
 use Rattle.memory_model.specs.Memory.{Memory}
-use Rattle.memory_model.specs.Marks.{Places, is_some_place, barred_to_loads, barred_to_stores}
-use Rattle.memory_model.specs.Ranges.{Range, range_of, span_in, span_of}
+use Rattle.memory_model.specs.Marks.{Places}
+use Rattle.memory_model.specs.Ranges.{range_of, span_in, span_of}
 use Rattle.block_table.specs.declared.rows.Span as row
 use Rattle.block_table.specs.declared.rows.Mark.{Mark}
 use Rattle.block_table.specs.declared.rows.Mark.TheVariants.{Free, Sends, Receive}
-use Rattle.block_table.specs.Rows.{IsNamed, AreMarked, mark_at, is_in, is_free, is_send, is_receive, may_send}
+use Rattle.block_table.specs.Rows.{AreMarked, mark_at, is_in, is_free, is_send, is_receive, may_send, with_send, with_receive}
 use Rattle.object_heap.specs.Layout.{Layout, IsSound}
-use Rattle.object_heap.specs.Objects.{Shows}
 use Rattle.object_heap.specs.Marks.{mark_of, mark_where, marks_in}
 use Rattle.object_heap.specs.Marks as heap
 use Rattle.object_heap.specs.Changes.{KeepsObjects, KeepsSpans}
@@ -111,3 +109,32 @@ pends s h task at count stored change span r some marked objects spans copies = 
   there = record { there = spans span (owner_for s.sharing task r.obj) r.obj r.there; at = refl; count = r.len };
   marks = remarks s h span (record { owner = owner_for s.sharing task r.obj; obj = r.obj; at = span.at; count = count }) change (record { there = r.there; at = refl; count = r.len }) marked objects spans copies;
 }
+
+sent_is : (mark : Mark) → is_receive mark ≡ false → is_send (with_send mark) ≡ true
+sent_is Free never = refl
+sent_is (Sends n) never = refl
+sent_is Receive never = absurd (false≢true (sym never))
+
+inside : (at count p : ℕ) → at ≤ p → p < at + count → is_in at count p ≡ true
+inside at count p low high = grind (arith, nat_tests)
+
+-- the places of a message that was just marked have its mark
+module _ (s : Space) (h : Layout) (task : ℕ) (at : Word) (count : ℕ) (span : row.Span) where
+  newly : (stored : Bool) (change : Mark → Mark) (test : Mark → Bool) (r : IsRange s task at count stored span) → heap.Remarks s.heap h span.key span.at span.len change → KeepsSpans s.heap h
+      → ((p : ℕ) → span.at ≤ p → p < span.at + count → test (change (mark_of s.heap (owner_for s.sharing task r.obj) r.obj p)) ≡ true) → IsMarked (record s { heap = h }) span test
+  newly stored change test r marked spans is = record {
+    places = record { owner = owner_for s.sharing task r.obj; obj = r.obj; at = span.at; count = count };
+    there = record { there = spans span (owner_for s.sharing task r.obj) r.obj r.there; at = refl; count = r.len };
+    marked = λ p low high.
+        ap test (marked.here (owner_for s.sharing task r.obj) r.obj p r.there.named
+        ∙ ap (λ b. if b then change (mark_of s.heap (owner_for s.sharing task r.obj) r.obj p) else mark_of s.heap (owner_for s.sharing task r.obj) r.obj p) (inside span.at span.len p low (omega (arith, r.len))))
+        ∙ is p low high;
+  }
+
+  pub newly_sent : (r : IsRange s task at count false span) → heap.Remarks s.heap h span.key span.at span.len with_send → KeepsSpans s.heap h → IsMarked (record s { heap = h }) span is_send
+  newly_sent r marked spans =
+      newly false with_send is_send r marked spans
+      (λ p low high. sent_is (mark_of s.heap (owner_for s.sharing task r.obj) r.obj p) (none_in (λ q. is_receive (mark_of s.heap (owner_for s.sharing task r.obj) r.obj q)) span.at count p r.allowed low high))
+
+  pub newly_received : (r : IsRange s task at count true span) → heap.Remarks s.heap h span.key span.at span.len with_receive → KeepsSpans s.heap h → IsMarked (record s { heap = h }) span is_receive
+  newly_received r marked spans = newly true with_receive is_receive r marked spans (λ p low high. refl)

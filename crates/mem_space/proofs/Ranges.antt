@@ -1,14 +1,13 @@
 -- The range that a word names, by the object that it points into.
-use Rattle.std.proofs.Common.{◌≡◌, ℕ, ◌+◌, ◌<◌, ◌≤◌, nat_le, Bool, true, false, cond, if◌then◌else◌, length, Option, Some, None, refl, sym, ap, subst, ◌∙◌, arith}
+use Rattle.std.proofs.Common.{◌≡◌, ℕ, ◌+◌, ◌<◌, ◌≤◌, nat_le, true, false, if◌then◌else◌, length, Some, None, ap, ◌∙◌, arith}
 use Rattle.std.proofs.lemmas.Bool.Decides.{nat_tests}
-use Rattle.mpc_values.specs.declared.values.Word.{Word}
 use Rattle.mpc_values.specs.declared.values.Word.TheVariants.{Ptr}
 use Rattle.mpc_values.specs.declared.values.Obj.{Obj}
 use Rattle.mpc_values.specs.declared.owners.Owner.{Owner}
 use Rattle.mpc_values.specs.declared.faults.Fault.TheVariants.{Bounds, Dangling, PendingTouch}
 use Rattle.memory_model.specs.Memory.{Memory, Object, object_of}
 use Rattle.memory_model.specs.Marks.{Places, is_some_place}
-use Rattle.memory_model.specs.Ranges.{Range, Within, NoRange, range_in, range_of}
+use Rattle.memory_model.specs.Ranges.{Within, NoRange, range_in, range_of}
 
 pub le_true : (a b : ℕ) → a ≤ b → nat_le a b ≡ true
 le_true a b h = grind (arith, nat_tests)

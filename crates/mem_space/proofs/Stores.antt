@@ -1,22 +1,21 @@
 -- Loads and stores.
-use Rattle.std.proofs.Common.{◌≡◌, ℕ, ◌+◌, ◌<◌, ◌≤◌, Bool, true, false, length, slice_get, Option, Some, None, Result, Ok, Err, refl, sym, ap, subst, ◌∙◌, arith, length-set}
+use Rattle.std.proofs.Common.{◌≡◌, ℕ, ◌+◌, ◌<◌, ◌≤◌, Bool, true, false, slice_get, Some, Result, Err, refl, sym, ap, ◌∙◌, arith, length-set}
 use Rattle.mpc_values.specs.declared.values.Word.{Word}
 use Rattle.mpc_values.specs.declared.values.Word.TheVariants.{Ptr}
 use Rattle.mpc_values.specs.declared.values.Obj.{Obj}
-use Rattle.mpc_values.specs.declared.owners.Owner.{Owner}
 use Rattle.mpc_values.specs.declared.answers.Answer.TheVariants.{Done}
 use Rattle.mpc_values.specs.declared.faults.Fault.{Fault}
 use Rattle.mpc_values.specs.declared.faults.Fault.TheVariants.{Bounds, PendingTouch}
-use Rattle.memory_model.specs.Memory.{Memory, Object, object_of, with_object}
+use Rattle.memory_model.specs.Memory.{Memory, object_of, with_object}
 use Rattle.memory_model.specs.Marks.{is_some_place}
-use Rattle.memory_model.specs.Ranges.{Range, Within, NoRange, range_of}
-use Rattle.memory_model.specs.Access.{Objects, Access, Breaks, given, load, load_in, store, store_in, with_word}
+use Rattle.memory_model.specs.Ranges.{Within, range_of}
+use Rattle.memory_model.specs.Access.{Objects, Breaks, given, load, load_in, store, store_in, with_word}
 use Rattle.block_table.specs.declared.rows.Span.{Span}
 use Rattle.block_table.specs.declared.rows.Row.{Row}
 use Rattle.object_heap.specs.Layout.{Layout, IsSpan}
-use Rattle.object_heap.specs.Objects.{Shows, key_named, object_in}
+use Rattle.object_heap.specs.Objects.{Shows, key_named}
 use Rattle.object_heap.specs.Marks.{marks_in}
-use Rattle.object_heap.specs.Changes.{Edits, Puts}
+use Rattle.object_heap.specs.Changes.{Edits}
 use Rattle.mem_space.specs.Spaces.{Space, owner_for, objects_in}
 use Rattle.mem_space.specs.Ranges.{IsRange, IsNoRange, barred}
 use Rattle.mem_space.specs.Accesses.{Answered, loaded}

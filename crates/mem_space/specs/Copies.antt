@@ -1,5 +1,5 @@
 -- Copies of messages. No list of them is kept: what is said holds of every list of all copies that the heap has.
-use Rattle.std.specs.Prelude.{◌≡◌, ℕ, Some}
+use Rattle.std.specs.Prelude.{◌≡◌, Some}
 use Rattle.memory_model.specs.declared.kinds.Span.{Span}
 use Rattle.memory_model.specs.Memory.{Memory}
 use Rattle.memory_model.specs.Ranges.{words_at, with_words_at}

@@ -1,5 +1,5 @@
 -- The static variables at the start.
-use Rattle.std.specs.Prelude.{◌≡◌, ℕ, List, slice_get, Option, Some, Contains}
+use Rattle.std.specs.Prelude.{◌≡◌, ℕ, List, slice_get, Some, Contains}
 use Rattle.mpc_values.specs.declared.values.Obj.{Obj}
 use Rattle.mpc_values.specs.declared.values.Obj.TheVariants.{Glob}
 use Rattle.mpc_values.specs.declared.owners.Owner.{Owner}

@@ -1,12 +1,12 @@
 -- Places of objects, by their rows' keys, their marks, and what calls leave as it is.
-use Rattle.std.specs.Prelude.{◌≡◌, ◌≢◌, ℕ, ◌+◌, ◌<◌, ◌≤◌, Bool, true, if◌then◌else◌, is_some, Result, Ok, Err, Some}
+use Rattle.std.specs.Prelude.{◌≡◌, ◌≢◌, ℕ, ◌+◌, ◌<◌, ◌≤◌, Bool, true, if◌then◌else◌, is_some, Ok, Some}
 use Rattle.mpc_values.specs.declared.values.Word.{Word}
 use Rattle.mpc_values.specs.declared.values.Word.TheVariants.{Ptr}
 use Rattle.mpc_values.specs.declared.values.Obj.{Obj}
 use Rattle.mpc_values.specs.declared.owners.Owner.{Owner}
 use Rattle.memory_model.specs.declared.kinds.Span.{Span}
 use Rattle.memory_model.specs.Memory.{Memory}
-use Rattle.memory_model.specs.Marks.{Marks, Places, barred_to_loads, barred_to_stores}
+use Rattle.memory_model.specs.Marks.{Places}
 use Rattle.memory_model.specs.Ranges.{span_of, words_at, with_words_at}
 use Rattle.block_table.specs.declared.rows.Span as row
 use Rattle.block_table.specs.declared.rows.Mark.{Mark}

@@ -1,5 +1,5 @@
 -- The places that a word names for a task.
-use Rattle.std.specs.Prelude.{◌≡◌, ℕ, ◌+◌, ◌≤◌, length, Some, Bool, true, false, if◌then◌else◌}
+use Rattle.std.specs.Prelude.{◌≡◌, ℕ, ◌+◌, ◌≤◌, length, Some, Bool, false, if◌then◌else◌}
 use Rattle.mpc_values.specs.declared.values.Word.{Word}
 use Rattle.mpc_values.specs.declared.values.Word.TheVariants.{Ptr}
 use Rattle.mpc_values.specs.declared.values.Obj.{Obj}

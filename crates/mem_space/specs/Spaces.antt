@@ -1,5 +1,5 @@
 -- What contracts see of a space: the heap of all tasks, who shares which variables, and what each task has made.
-use Rattle.std.specs.Prelude.{◌≡◌, ℕ, ◌<◌, List, length, slice_index}
+use Rattle.std.specs.Prelude.{ℕ, ◌<◌, List, length, slice_index}
 use Rattle.mpc_values.specs.declared.values.Obj.{Obj}
 use Rattle.mpc_values.specs.declared.values.Obj.TheVariants.{Glob, Dyn}
 use Rattle.mpc_values.specs.declared.owners.Owner.{Owner}

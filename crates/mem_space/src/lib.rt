@@ -6,5 +6,7 @@ mod access;
 mod first;
 mod messages;
 mod space;
+#[cfg(test)]
+mod tests;
 
 pub use space::Space;

@@ -25,6 +25,7 @@ impl Space {
         requires some { 0 < count }
         requires few { CanCount self.old task at count }
         ensures ok { IfOk result (λ span. Pends self.old self.new task at count (barred_to_loads (marks_in self.old.heap)) with_send span) }
+        ensures marked { IfOk result (λ span. IsMarked self.new span is_send) }
         ensures err { IfErr result (λ fault. (m : Memories) → Shows self.old.heap m → span_of (owner_for self.old.sharing task) (barred_to_loads (marks_in self.old.heap)) m at count ≡ Err fault) }
         ensures same { OnErr result (self.new ≡ self.old) }
     {
@@ -39,6 +40,7 @@ impl Space {
         requires task { IsTask self.old task }
         requires some { 0 < count }
         ensures ok { IfOk result (λ span. Pends self.old self.new task at count (barred_to_stores (marks_in self.old.heap)) with_receive span) }
+        ensures marked { IfOk result (λ span. IsMarked self.new span is_receive) }
         ensures err { IfErr result (λ fault. (m : Memories) → Shows self.old.heap m → span_of (owner_for self.old.sharing task) (barred_to_stores (marks_in self.old.heap)) m at count ≡ Err fault) }
         ensures same { OnErr result (self.new ≡ self.old) }
     {

@@ -1,10 +1,7 @@
-use Rattle.std.proofs.Common.{◌≡◌, ◌+◌, ◌<◌, true, false, length, get_or, slice_get, Option, Some, None, is_some, refl, sym, subst, ap, ◌∙◌, inl, inr, ◌⊎◌, arith}
+use Rattle.std.proofs.Common.{◌≡◌, ◌+◌, true, length, Some, None, is_some, refl, sym, subst, ap, ◌∙◌, arith}
 use Rattle.std.proofs.lemmas.Bool.{false≢true}
 use Rattle.std.proofs.lemmas.Option.{slice_get_read}
 use Rattle.mpc_values.specs.declared.values.Obj.TheVariants.{Glob}
-use Rattle.mpc_values.specs.declared.owners.StaticVar.{StaticVar}
-use Rattle.mpc_values.specs.declared.owners.Owner.{Owner}
-use Rattle.memory_model.specs.Memory.{Object}
 use Rattle.tls_levels.specs.Owners.{owner_level}
 use Rattle.object_heap.specs.Layout.{Layout}
 use Rattle.object_heap.specs.Objects.{object_in}
@@ -12,7 +9,7 @@ use Rattle.object_heap.specs.Marks.{KeepsMarks}
 use Rattle.object_heap.specs.Copies.{KeepsCopies}
 use Rattle.object_heap.specs.Changes.{Puts}
 use Rattle.mem_space.specs.First.{first_object}
-use Rattle.mem_space.proofs.Images.{HasSome, some_begin, some_end, some_skip, variable_added, marks_then, copies_then}
+use Rattle.mem_space.proofs.Images.{HasSome, some_end, some_skip, variable_added, marks_then, copies_then}
 use Rattle.mem_space.proofs.first.add_image.Goals as goal
 use Rattle.mem_space.proofs.first.add_image.Goals.{then-is_in_image+in_ok-add_variable, else-is_in_image}
 

@@ -1,4 +1,4 @@
-use Rattle.std.proofs.Common.{◌≡◌, ◌≤◌, List, length, replicate, Some, sym, subst, ap, ◌∙◌, arith}
+use Rattle.std.proofs.Common.{List, length, Some, sym, subst, ap, ◌∙◌}
 use Rattle.std.proofs.lemmas.List.{length-replicate}
 use Rattle.mpc_values.specs.declared.values.Word.{Word}
 use Rattle.object_heap.specs.Changes.{Puts}

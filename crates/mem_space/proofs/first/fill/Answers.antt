@@ -1,8 +1,7 @@
-use Rattle.std.proofs.Common.{◌≡◌, ◌+◌, ◌<◌, length, Fits, w32, sym, subst, ap, ◌∙◌, arith}
+use Rattle.std.proofs.Common.{◌+◌, ap, ◌∙◌}
 use Rattle.std.proofs.lemmas.List.{get_or_default}
 use Rattle.mpc_values.specs.declared.values.Word.TheVariants.{Undef}
-use Rattle.object_heap.specs.Layout.{Layout}
-use Rattle.mem_space.proofs.Images.{fill_step, fill_end, fill_begin, marks_then, copies_then}
+use Rattle.mem_space.proofs.Images.{fill_step, fill_end, marks_then, copies_then}
 use Rattle.mem_space.proofs.first.fill.Goals as goal
 
 pub loop-word-preserved : goal.loop-word-preserved

@@ -1,4 +1,4 @@
-use Rattle.std.proofs.Common.{◌≡◌, ◌+◌, ◌-◌, ◌<◌, ◌≤◌, length, get_or, set, Some, refl, subst, sym, ap, ◌∙◌, arith}
+use Rattle.std.proofs.Common.{◌≡◌, ◌-◌, ◌<◌, length, get_or, set, refl, subst, sym, ap, ◌∙◌, arith}
 use Rattle.std.proofs.lemmas.List.{get_or_default}
 use Rattle.mpc_values.specs.declared.values.Obj.TheVariants.{Dyn}
 use Rattle.mpc_values.specs.declared.owners.Owner.TheVariants.{Task}
@@ -10,7 +10,7 @@ use Rattle.object_heap.specs.Marks.{marks_in}
 use Rattle.mem_space.specs.Spaces.{Space, objects_in}
 use Rattle.mem_space.specs.Kept.{seen_of}
 use Rattle.mem_space.specs.Accesses.{Answered}
-use Rattle.mem_space.proofs.Heaps.{Found, found}
+use Rattle.mem_space.proofs.Heaps.{found}
 use Rattle.mem_space.proofs.Counts.{counted_words, all_counted_ended}
 use Rattle.mem_space.proofs.Makes.{ends_is}
 use Rattle.mem_space.proofs.space.Space.end.Goals as goal

@@ -1,4 +1,4 @@
-use Rattle.std.proofs.Common.{◌≡◌, subst, sym}
+use Rattle.std.proofs.Common.{subst}
 use Rattle.mem_space.specs.Spaces.{Space}
 use Rattle.mem_space.specs.Copies.{Holds}
 use Rattle.mem_space.specs.Kept.{seen_of}

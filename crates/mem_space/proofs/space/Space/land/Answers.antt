@@ -1,4 +1,4 @@
-use Rattle.std.proofs.Common.{◌≡◌, ◌≤◌, length, subst, sym, arith}
+use Rattle.std.proofs.Common.{◌≤◌, length, subst, sym, arith}
 use Rattle.block_table.specs.Rows.{is_receive}
 use Rattle.object_heap.specs.Copies.{copy_words}
 use Rattle.object_heap.proofs.Words.{length_words}

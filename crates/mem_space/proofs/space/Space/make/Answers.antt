@@ -1,4 +1,4 @@
-use Rattle.std.proofs.Common.{◌≡◌, ◌+◌, ◌<◌, ◌≤◌, length, get_or, set, replicate, Some, refl, subst, sym, ap, ◌∙◌, arith}
+use Rattle.std.proofs.Common.{◌≡◌, ◌+◌, ◌<◌, length, get_or, set, Some, subst, sym, ap, ◌∙◌, arith}
 use Rattle.std.proofs.lemmas.List.{get_or_default, get_or-set_same, length-replicate}
 use Rattle.mpc_values.specs.declared.values.Word.TheVariants.{Undef, Ptr}
 use Rattle.mpc_values.specs.declared.values.Obj.TheVariants.{Dyn}

@@ -1,4 +1,4 @@
-use Rattle.std.proofs.Common.{◌≡◌, w64, subst, sym, ◌∙◌}
+use Rattle.std.proofs.Common.{w64, subst, sym, ◌∙◌}
 use Rattle.std.proofs.lemmas.Int.{to_z-of_z}
 use Rattle.mpc_values.specs.declared.answers.Answer.TheVariants.{Gives}
 use Rattle.mem_space.specs.Accesses.{Answered}

@@ -1,5 +1,5 @@
-use Rattle.std.proofs.Common.{◌≡◌, ℕ, List, [], length, replicate, sym, subst, ap, ◌∙◌}
-use Rattle.tls_levels.specs.Sharing.{Sharing, owners_in}
+use Rattle.std.proofs.Common.{◌≡◌, [], length, replicate, sym, ap, ◌∙◌}
+use Rattle.tls_levels.specs.Sharing.{Sharing}
 use Rattle.object_heap.specs.Layout.{Layout}
 use Rattle.mem_space.proofs.Images.{first_counted, no_copies}
 use Rattle.mem_space.proofs.space.Space.new.Goals as goal

@@ -1,4 +1,4 @@
-use Rattle.std.proofs.Common.{◌≡◌, refl, subst}
+use Rattle.std.proofs.Common.{refl, subst}
 use Rattle.mpc_values.specs.declared.answers.Answer.TheVariants.{Gives}
 use Rattle.mem_space.specs.Accesses.{Answered}
 use Rattle.mem_space.proofs.Makes.{new_fits, new_full}

@@ -1,14 +1,10 @@
-use Rattle.std.proofs.Common.{◌≡◌, ◌+◌, ◌≤◌, Bool, true, false, Some, subst, sym, ap, ◌∙◌}
-use Rattle.mpc_values.specs.declared.owners.Owner.{Owner}
+use Rattle.std.proofs.Common.{◌≡◌, ◌+◌, ◌≤◌, Some, subst, sym, ◌∙◌}
 use Rattle.mpc_values.specs.declared.values.Word.{Word}
-use Rattle.memory_model.specs.Marks.{is_some_place}
 use Rattle.block_table.specs.declared.rows.Row.{Row}
 use Rattle.block_table.specs.Rows.{live, IsLive, IsNamed}
-use Rattle.object_heap.specs.Layout.{HasPlaces}
 use Rattle.object_heap.specs.Objects.{key_named}
-use Rattle.object_heap.specs.Marks.{marks_in}
 use Rattle.mem_space.specs.Spaces.{Space, owner_for}
-use Rattle.mem_space.specs.Ranges.{IsRange, IsNoRange, barred}
+use Rattle.mem_space.specs.Ranges.{IsRange, IsNoRange}
 use Rattle.object_heap.proofs.Rows.{row_live}
 use Rattle.mem_space.proofs.Heaps.{Found, found}
 use Rattle.mem_space.proofs.Stores.{past_row, touched_row, range_there}

@@ -1,11 +1,11 @@
-use Rattle.std.proofs.Common.{◌≡◌, ◌≤◌, length, refl, subst, sym, arith}
+use Rattle.std.proofs.Common.{◌≤◌, length, subst, sym, arith}
 use Rattle.block_table.specs.Rows.{is_send, is_receive}
-use Rattle.object_heap.specs.Objects.{Shows, span_words}
+use Rattle.object_heap.specs.Objects.{span_words}
 use Rattle.mem_space.specs.Spaces.{Space}
 use Rattle.mem_space.specs.Places.{IsMarked, SendsOver}
 use Rattle.mem_space.specs.Kept.{seen_of}
-use Rattle.mem_space.proofs.Marked.{rows_marked, keeps}
-use Rattle.mem_space.proofs.Copied.{words_there, length_there, written_sizes, written_shows, sent_over}
+use Rattle.mem_space.proofs.Marked.{rows_marked}
+use Rattle.mem_space.proofs.Copied.{length_there, written_sizes, sent_over}
 use Rattle.mem_space.proofs.Counts.{counted_same}
 use Rattle.mem_space.proofs.space.Space.send_over.Goals as goal
 

@@ -1,4 +1,4 @@
-use Rattle.std.proofs.Common.{◌≡◌, true, length, subst, sym}
+use Rattle.std.proofs.Common.{true, length, subst, sym}
 use Rattle.mpc_values.specs.declared.answers.Answer.TheVariants.{Done}
 use Rattle.memory_model.specs.Memory.{Memory}
 use Rattle.memory_model.specs.Access.{store}

@@ -1,4 +1,4 @@
-use Rattle.std.proofs.Common.{◌≡◌, Bool, true, false, if◌then◌else◌, subst, sym}
+use Rattle.std.proofs.Common.{Bool, if◌then◌else◌, subst, sym}
 use Rattle.memory_model.specs.declared.kinds.Span.{Span}
 use Rattle.block_table.specs.Rows.{is_send, is_receive, without_send, without_receive}
 use Rattle.mem_space.specs.Spaces.{Space}
