@@ -6,3 +6,4 @@ pub mod Marked
 pub mod Copied
 pub mod Makes
 pub mod Images
+pub mod Staying

@@ -4,9 +4,11 @@
 
 mod access;
 mod first;
+mod laws;
 mod messages;
 mod space;
 #[cfg(test)]
 mod tests;
 
+pub use laws::messages_keep_their_marks;
 pub use space::Space;
