@@ -10,7 +10,7 @@ use Rattle.mpi_coll.specs.Shown.{Shows}
 use Rattle.mpi_coll.proofs.Comparisons.{lt_no}
 use Rattle.mpi_coll.proofs.Lists.{counts_none}
 
-alike : {X : Type 0} (x : X) (members rank : ℕ) → get_or (map (λ (r : ℕ). x) (range_with_len 0 members)) rank x ≡ x
+pub alike : {X : Type 0} (x : X) (members rank : ℕ) → get_or (map (λ (r : ℕ). x) (range_with_len 0 members)) rank x ≡ x
 alike x members rank = elim (cases_lt rank members) [
   | inl lt ↦ get_or-map-range_with_len (λ (r : ℕ). x) 0 members rank rank x lt (omega arith)
   | inr ge ↦ get_or_past (map (λ (r : ℕ). x) (range_with_len 0 members)) rank x (omega (arith, ge, length-map-range_with_len (λ (r : ℕ). x) 0 members))

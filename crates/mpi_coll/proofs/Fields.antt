@@ -52,6 +52,9 @@ module _ (t : Tables) (whole : IsWhole t) (rank m : ℕ) (within : rank < length
   pub waits_read : place_of t rank < length t.waiting → m - t.full < length t.waiting
   waits_read waits = omega (arith, waits, place_is)
 
+  pub low_read : t.full ≤ m
+  low_read = omega (arith, whole.low rank within, made_is)
+
   pub near_read : m - t.full ≤ length t.waiting
   near_read = omega (arith, whole.high rank, made_is)
 

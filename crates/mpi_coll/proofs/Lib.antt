@@ -13,3 +13,9 @@ pub mod Telling
 pub mod Beginning
 pub mod Fields
 pub mod Absent
+pub mod Communicators
+pub mod Opened
+pub mod Numbered
+pub mod Together
+pub mod Coming
+pub mod First

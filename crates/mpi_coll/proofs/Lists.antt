@@ -217,3 +217,22 @@ pub slice_get_ranks : {X : Type 0} (f : ℕ → X) (n r : ℕ) → r < n → sli
 slice_get_ranks f n r h =
     slice_get-get_or (map f (range_with_len 0 n)) r (f r) (omega (arith, h, length-map-range_with_len f 0 n))
     ∙ ap (λ x. Some x) (get_or-map-range_with_len f 0 n r r (f r) h (omega arith))
+
+-- a list with a known item for each rank
+pub ranks-each : {X : Type 0} (f : ℕ → X) (xs : List X) (a : ℕ) → ((k : ℕ) → k < length xs → slice_get xs k ≡ Some (f (a + k))) → xs ≡ map f (range_with_len a (length xs))
+ranks-each f [] a each = refl
+ranks-each f (x ∷ xs) a each =
+    let here = each 0 (omega arith) in
+    let is : x ≡ f a = (let e : f (a + 0) ≡ f a = ap f (omega arith) in cc) in
+    rw (is, ← ranks-each f xs (a + 1) (λ k h. each (suc k) (omega arith) ∙ ap (λ n. Some (f n)) (omega arith))) refl
+
+-- two lists with the same item for each rank
+pub ranks-same : {X : Type 0} (f g : ℕ → X) (a n : ℕ) → ((k : ℕ) → k < a + n → f k ≡ g k) → map f (range_with_len a n) ≡ map g (range_with_len a n)
+ranks-same f g a zero same = refl
+ranks-same f g a (suc n) same =
+    let here : f a ≡ g a = same a (omega arith) in
+    rw (here, ranks-same f g (a + 1) n (λ k h. same k (omega arith))) refl
+
+pub nil-from_length : {X : Type 0} (xs : List X) → length xs ≡ 0 → xs ≡ []
+nil-from_length [] h = refl
+nil-from_length (x ∷ xs) h = absurd (omega arith)

@@ -236,3 +236,23 @@ module _ (numbers : ℕ → ℕ → ℕ) (t : Tables) (whole : IsWhole t) (arriv
             ∙ (ap (λ ws. outcome_in b.coll.what (numbers t.full r) (result_of b.coll r ws)) (sym given_there)
             ∙ (ap (λ w. outcome_in w (numbers t.full r) (result_of b.coll r g.given)) (Alike-from_agree b.coll coll alike).what
             ∙ ap (λ ws. outcome_in coll.what (numbers t.full r) ws) (agree-result_of b.coll coll r g.given alike)))
+
+    -- what all have asked at the meeting that an arrival fills
+    pub asked-filled : (g : Gathered) → slice_get t.waiting 0 ≡ Some g → Holds g rank a → get_or t.made rank 0 ≡ t.full → length g.asked ≡ length t.made
+        → ((r : ℕ) → r < length more_made → t.full + 1 ≤ get_or more_made r 0)
+        → g.asked ≡ map (λ (b : Arrival). b.coll) (meeting_of after comm (length t.made) t.full)
+    asked-filled g there holds next each_asked low =
+        filter_map-each (arrival_at after comm t.full) (λ (b : Arrival). b.coll) g.asked 0 asked_there
+        ∙ ap (λ n. map (λ (b : Arrival). b.coll) (meeting_of after comm n t.full)) each_asked
+      where
+        turns_after : InTurn after comm
+        turns_after = InTurn-next arrivals comm shows.turns rank coll words
+
+        asked_there : (k : ℕ) (call : Coll) → slice_get g.asked k ≡ Some call → (b : Arrival) × (arrival_at after comm t.full (0 + k) ≡ Some b) × (call ≡ b.coll)
+        asked_there k call got =
+            let within_asked : k < length g.asked = slice_get_within g.asked k call got in
+            let past : nat_lt t.full (next_meeting after comm k) ≡ true = lt_yes t.full (next_meeting after comm k) (omega (arith, low k (omega (arith, each_asked, long, within_asked)), made_after k)) in
+            let one = is_some-true (arrival_at after comm t.full k) (turns_after.came t.full k ∙ past) in
+            let h = held_after 0 k g one.0 there (λ _. holds) (ap (λ n. arrival_at after comm n k) (omega arith) ∙ one.1) in
+            let same : call ≡ one.0.coll = let e = h.asked in cc in
+            (one.0, ap (arrival_at after comm t.full) (omega arith) ∙ one.1, same)

@@ -1,15 +1,14 @@
 -- Each step of the tables keeps them whole, and gives the tables of the arrivals after it.
-use Rattle.std.proofs.Common.{◌≡◌, ◌≢◌, ℕ, ◌+◌, ◌-◌, ◌<◌, Bool, true, false, cond, ◌==◌, ◌&&◌, not, List, [], ◌∷◌, ◌++◌, length, map, get_or, set, ◌⊎◌, inl, inr, refl, ap, sym, ◌∙◌, subst, arith}
+use Rattle.std.proofs.Common.{◌≡◌, ◌≢◌, ℕ, ◌+◌, ◌<◌, ◌≤◌, Bool, true, false, cond, ◌==◌, ◌&&◌, not, List, [], ◌∷◌, ◌++◌, length, map, get_or, set, ◌⊎◌, inl, inr, refl, ap, sym, ◌∙◌, subst, arith}
 use Rattle.std.specs.Prelude.{Option, Some, None, slice_get}
 use Rattle.std.specs.List.{range_with_len}
 use Rattle.std.proofs.lemmas.Bool.{false≢true}
 use Rattle.std.proofs.lemmas.List.{length-set}
-use Rattle.std.proofs.lemmas.List.FromFn.{length-map-range_with_len}
 use Rattle.std.proofs.lemmas.Option.{slice_get_within}
 use Rattle.mpc_values.specs.declared.values.Word.{Word}
 use Rattle.mpc_values.specs.declared.collectives.Coll.{Coll}
 use Rattle.mpi_coll.specs.declared.arrivals.Arrival.{Arrival}
-use Rattle.mpi_coll.specs.Meetings.{agree, next_meeting}
+use Rattle.mpi_coll.specs.Meetings.{agree, next_meeting, meeting_of}
 use Rattle.mpi_coll.specs.Results.{result_of}
 use Rattle.mpi_coll.specs.Rooms.{Gathered, Tables, size_in, place_of, fresh, put_in, differs_from, differs_in, with_place, put_at, prepared, is_last_in, is_last, counted_at, entered, filled, IsWhole}
 use Rattle.mpi_coll.specs.Shown.{next_arrival, with_next, outcome_in, Holds, Shows}
@@ -17,7 +16,7 @@ use Rattle.mpi_coll.proofs.Comparisons.{eq_yes, eq_from, ne_from, both_yes, both
 use Rattle.mpi_coll.proofs.Agreeing.{agree-itself}
 use Rattle.mpi_coll.proofs.Lists.{there_is, slice_get-push_last, slice_get-set_same, slice_get_ranks}
 use Rattle.mpi_coll.proofs.Whole.{whole-opened, whole-put, whole-entered, whole-filled}
-use Rattle.mpi_coll.proofs.Showing.{shows-opened, shows-put, shows-entered, shows-filled}
+use Rattle.mpi_coll.proofs.Showing.{shows-opened, shows-put, shows-entered, shows-filled, asked-filled}
 
 -- What an arrival that fills its meeting finds.
 pub record Last (t : Tables) (rank : ℕ) : Type 0 where
@@ -157,22 +156,49 @@ module _ (t : Tables) (whole : IsWhole t) (rank : ℕ) (within : rank < length t
             subst (λ o. Shows numbers (record p { made = set t.made rank (get_or t.made rank 0 + 1); waiting = counted_at p.waiting place o }) (with_next arrivals comm rank coll words) comm) (sym one.1)
             (shows-entered numbers p whole-prepared arrivals comm shows-prepared rank within coll words (put_in one.0 rank coll words) one.1 (prepared_holds one.0 same one.2 one.3 one.4))
 
-        -- the arrival that fills its meeting
-        pub shows-fills : (g : Gathered) (results : List (List Word)) → differs_in t rank coll ≡ false → is_last p rank ≡ true → slice_get p.waiting 0 ≡ Some g
-            → results ≡ map (λ r. outcome_in coll.what (numbers t.full r) (result_of coll r g.given)) (range_with_len 0 (size_in t))
-            → Shows numbers (filled p rank results) (with_next arrivals comm rank coll words) comm
-        shows-fills g results same last first are =
+        -- what an arrival finds that fills its meeting
+        record Filling (g : Gathered) : Type 0 where
+          holds : Holds g rank (next_arrival arrivals comm rank coll words)
+          next : get_or t.made rank 0 ≡ t.full
+          asked : length g.asked ≡ length t.made
+          given : length g.given ≡ length t.made
+          low : (r : ℕ) → r < length (set t.made rank (get_or t.made rank 0 + 1)) → t.full + 1 ≤ get_or (set t.made rank (get_or t.made rank 0 + 1)) r 0
+
+        filling : (g : Gathered) → differs_in t rank coll ≡ false → is_last p rank ≡ true → slice_get p.waiting 0 ≡ Some g → Filling g
+        filling g same last first =
             let l = Last-from_test p rank last in
             let one = prepared_there in
             let at : place ≡ 0 = l.next in
             let there : slice_get p.waiting 0 ≡ Some (put_in one.0 rank coll words) = ap (slice_get p.waiting) (sym at) ∙ one.1 in
             let is : put_in one.0 rank coll words ≡ g = let e = first in cc in
-            let holds : Holds g rank (next_arrival arrivals comm rank coll words) = subst (λ k. Holds k rank (next_arrival arrivals comm rank coll words)) is (prepared_holds one.0 same one.2 one.3 one.4) in
             let given : length g.given ≡ length t.made = ap (λ (k : Gathered). length k.given) (sym is) ∙ (length-set one.0.given rank words ∙ one.3) in
             let next : get_or t.made rank 0 ≡ t.full = omega (arith, at, whole.low rank within) in
-            let whole_after : IsWhole (filled p rank results) = whole-filled p whole-prepared rank within l.first results l.there next l.missing
-            (ap length are ∙ length-map-range_with_len (λ r. outcome_in coll.what (numbers t.full r) (result_of coll r g.given)) 0 (size_in t)) in
-            shows-filled numbers p whole-prepared arrivals comm shows-prepared rank within coll words g results first holds next given
+            record {
+              holds = subst (λ k. Holds k rank (next_arrival arrivals comm rank coll words)) is (prepared_holds one.0 same one.2 one.3 one.4);
+              next = next;
+              asked = ap (λ (k : Gathered). length k.asked) (sym is) ∙ (length-set one.0.asked rank coll ∙ one.2);
+              given = given;
+              low = (whole-filled p whole-prepared rank within l.first g.given l.there next l.missing given).low;
+            }
+
+        -- the arrival that fills its meeting
+        pub shows-fills : (g : Gathered) (results : List (List Word)) → differs_in t rank coll ≡ false → is_last p rank ≡ true → slice_get p.waiting 0 ≡ Some g
+            → results ≡ map (λ r. outcome_in coll.what (numbers t.full r) (result_of coll r g.given)) (range_with_len 0 (size_in t))
+            → Shows numbers (filled p rank results) (with_next arrivals comm rank coll words) comm
+        shows-fills g results same last first are =
+            let f = filling g same last first in
+            shows-filled numbers p whole-prepared arrivals comm shows-prepared rank within coll words g results first f.holds f.next f.given
             (λ r h. ap (λ rs. slice_get rs r) are
             ∙ slice_get_ranks (λ r. outcome_in coll.what (numbers t.full r) (result_of coll r g.given)) (size_in t) r h)
-            whole_after.low
+            f.low
+
+        -- what all ask at the meeting that it fills
+        pub asked-fills : (g : Gathered) → differs_in t rank coll ≡ false → is_last p rank ≡ true → slice_get p.waiting 0 ≡ Some g
+            → g.asked ≡ map (λ (b : Arrival). b.coll) (meeting_of (with_next arrivals comm rank coll words) comm (size_in t) t.full)
+        asked-fills g same last first =
+            let f = filling g same last first in
+            asked-filled numbers p whole-prepared arrivals comm shows-prepared rank within coll words g first f.holds f.next f.asked f.low
+
+        -- the number of the meeting that it fills
+        pub next-fills : (g : Gathered) → differs_in t rank coll ≡ false → is_last p rank ≡ true → slice_get p.waiting 0 ≡ Some g → next_meeting arrivals comm rank ≡ t.full
+        next-fills g same last first = let f = filling g same last first in sym (shows.made rank) ∙ f.next

@@ -7,3 +7,5 @@ pub mod Shares
 pub mod Rooms
 pub mod Shown
 pub mod Kept
+pub mod Together
+pub mod Concluding

@@ -47,6 +47,11 @@ outcome_in Dup number words = Comm number ∷ []
 outcome_in Split number words = Comm number ∷ []
 outcome_in what number words = words
 
+-- the same of a meeting, with the number of the member's new communicator
+abbrev pub gotten : List Arrival → ℕ → ℕ → ℕ → ℕ → Arrival → List Word
+gotten arrivals comm size rank number a =
+    outcome_in a.coll.what number (result_of a.coll rank (map (λ (b : Arrival). b.given) (meeting_of arrivals comm size a.meeting)))
+
 -- The same of a meeting. The numbers are those of the members' new communicators, by meeting and rank.
 abbrev pub outcome : (ℕ → ℕ → ℕ) → List Arrival → ℕ → ℕ → ℕ → Arrival → List Word
 outcome numbers arrivals comm size rank a =

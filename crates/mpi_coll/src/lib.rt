@@ -4,6 +4,7 @@
 
 mod arrivals;
 mod comparing;
+mod concluding;
 mod gatherings;
 mod laws;
 mod meetings;

@@ -1,13 +1,19 @@
 //! The meetings of one communicator.
-ghost use Rattle.std.specs.Prelude.{◌≡◌, ◌<◌, ◌+◌, ◌≤◌, IfOk, OnOk, OnErr, length, true, false, Some, slice_get, option_copied, map};
+ghost use Rattle.std.specs.Prelude.{◌≡◌, ◌≢◌, ◌<◌, ◌+◌, ◌≤◌, ◌&&◌, nat_lt, IsSome, IfOk, OnOk, OnErr, length, true, false, Some, slice_get, option_copied, map};
 ghost use Rattle.std.specs.List.{range_with_len};
 ghost use Rattle.mpc_values.specs.declared.limits.TheConstants.{MAX_GIVEN};
+ghost use Rattle.mpc_values.specs.declared.collectives.CollKind.TheVariants as kind;
+ghost use Rattle.mpi_comm.specs.Seen.{seen_at, alive, members_at};
 ghost use Rattle.mpi_coll.specs.Rooms.{differs_from, opened_at};
+ghost use Rattle.mpi_coll.specs.Concluding.{seen_after, outcomes_to, arrived_in, seen_arrived};
+ghost use Rattle.mpi_coll.specs.Together.{makes_comms, Remains};
 
 use crate::comparing::agrees;
+use crate::concluding::conclude;
 use crate::gatherings::Gathering;
 use crate::shares::copy;
 use mpc_values::{Coll, Memory, Word, Words};
+use mpi_comm::Comms;
 use std::alloc::Global;
 use std::marker::Model;
 use std::mem;
@@ -37,7 +43,7 @@ impl Model for Room {
 }
 
 impl Room {
-    ghost use Rattle.mpi_coll.specs.Rooms.{begun, size_in, made_by, place_of, differs_in, prepared, is_last, entered, filled, is_due, departed};
+    ghost use Rattle.mpi_coll.specs.Rooms.{Gathered, IsWhole, begun, size_in, made_by, place_of, differs_in, prepared, is_last, entered, filled, is_due, departed};
 
     /// A communicator of so many members before its first meeting.
     pub(crate) fn new(alloc: Global, members: u32) -> Result<Room, Memory>
@@ -60,8 +66,16 @@ impl Room {
         self.members
     }
 
-    /// Whether a call of the member differs from an earlier one of its next meeting.
+    /// Whether the rank is a member's, and its call differs from an earlier one of its next meeting.
     pub(crate) fn differs(&self, rank: u32, coll: &Coll) -> bool
+        ensures differs { result ≡ (nat_lt rank (size_in self.now) && differs_in self.now rank coll.now) }
+        ensures whole { IsWhole self.now }
+    {
+        rank < self.members && self.differs_next(rank, coll)
+    }
+
+    /// Whether a call of the member differs from an earlier one of its next meeting.
+    fn differs_next(&self, rank: u32, coll: &Coll) -> bool
         requires { rank < size_in self.now }
         ensures { result ≡ differs_in self.now rank coll.now }
     {
@@ -74,7 +88,7 @@ impl Room {
 
     /// Writes down what the member asks and gives at its next meeting, and does not count it yet. After want of memory
     /// all is as before.
-    pub(crate) fn prepare(
+    fn prepare(
         &mut self,
         alloc: Global,
         rank: u32,
@@ -83,6 +97,7 @@ impl Room {
     ) -> Result<(), Memory>
         requires { rank < size_in self.old }
         ensures done { OnOk result (self.new ≡ prepared self.old rank coll.now given.now) }
+        ensures whole { OnOk result (IsWhole self.old) }
         ensures err { OnErr result (self.new ≡ self.old) }
     {
         let words = copy(alloc, given)?;
@@ -93,8 +108,63 @@ impl Room {
         Ok(())
     }
 
+    /// One member's arrival. Where it is the last of its meeting, what all members get is kept, and a dup, a split or a
+    /// free changes the communicators. After want of memory these are as before, and the tables stand for what they
+    /// stood for.
+    pub(crate) fn arrive(
+        &mut self,
+        alloc: Global,
+        comms: &mut Comms,
+        comm: u32,
+        rank: u32,
+        coll: &Coll,
+        given: &[Word],
+    ) -> Result<(), Memory>
+        requires member { rank < size_in self.old }
+        requires few { made_by self.old rank < MAX_GIVEN }
+        requires living { IsSome (alive (seen_at comms.old comm)) }
+        requires size { size_in self.old ≡ length (members_at comms.old comm) }
+        requires numbers { makes_comms coll.now.what ≡ true → length comms.old < MAX_GIVEN }
+        requires not_world { coll.now.what ≡ kind.Free → comm ≢ 1 }
+        ensures done { OnOk result (self.new ≡ arrived_in (prepared self.old rank coll.now given.now) rank coll.now comms.old comm) }
+        ensures changes { OnOk result (comms.new ≡ seen_arrived (prepared self.old rank coll.now given.now) rank coll.now comms.old comm) }
+        ensures whole { OnOk result (IsWhole self.old) }
+        ensures err { OnErr result (Remains self.old self.new) }
+        ensures err_comms { OnErr result (comms.new ≡ comms.old) }
+    {
+        self.prepare(alloc, rank, coll, given)?;
+        if self.is_last(rank) {
+            let results = self.conclude(alloc, comms, comm, coll)?;
+            self.fill(rank, results);
+        } else {
+            self.enter(rank);
+        }
+        Ok(())
+    }
+
+    /// What all members get of the first meeting, and the change of the communicators.
+    fn conclude(
+        &self,
+        alloc: Global,
+        comms: &mut Comms,
+        comm: u32,
+        coll: &Coll,
+    ) -> Result<Vec<Words>, Memory>
+        requires waits { 0 < length self.now.waiting }
+        requires living { IsSome (alive (seen_at comms.old comm)) }
+        requires size { size_in self.now ≡ length (members_at comms.old comm) }
+        requires numbers { makes_comms coll.now.what ≡ true → length comms.old < MAX_GIVEN }
+        requires not_world { coll.now.what ≡ kind.Free → comm ≢ 1 }
+        ensures gets { (g : Gathered) → slice_get self.now.waiting 0 ≡ Some g → IfOk result (λ all. all.items ≡ outcomes_to coll.now comms.old comm g.asked g.given (size_in self.now)) }
+        ensures changes { (g : Gathered) → slice_get self.now.waiting 0 ≡ Some g → OnOk result (comms.new ≡ seen_after coll.now.what comms.old comm g.asked) }
+        ensures err { OnErr result (comms.new ≡ comms.old) }
+    {
+        let gathering = &self.waiting[0];
+        conclude(alloc, comms, comm, coll, gathering, self.members)
+    }
+
     /// Whether the member's arrival fills its meeting.
-    pub(crate) fn is_last(&self, rank: u32) -> bool
+    fn is_last(&self, rank: u32) -> bool
         requires { rank < size_in self.now }
         ensures { result ≡ is_last self.now rank }
     {
@@ -106,15 +176,8 @@ impl Room {
         }
     }
 
-    /// The first meeting that some have not come to, where there is one.
-    pub(crate) fn first(&self) -> Option<&Gathering>
-        ensures { option_copied result ≡ slice_get self.now.waiting 0 }
-    {
-        self.waiting.get(0)
-    }
-
     /// Counts an arrival that does not fill its meeting. An earlier result that the member has not got is given up.
-    pub(crate) fn enter(&mut self, rank: u32)
+    fn enter(&mut self, rank: u32)
         requires member { rank < size_in self.old }
         requires few { made_by self.old rank < MAX_GIVEN }
         requires waits { place_of self.old rank < length self.old.waiting }
@@ -128,7 +191,7 @@ impl Room {
     }
 
     /// Counts the arrival that fills the first meeting, and keeps what each member gets of it, by rank.
-    pub(crate) fn fill(&mut self, rank: u32, results: Vec<Words>)
+    fn fill(&mut self, rank: u32, results: Vec<Words>)
         requires member { rank < size_in self.old }
         requires few { made_by self.old rank < MAX_GIVEN }
         requires last { is_last self.old rank ≡ true }
@@ -143,7 +206,8 @@ impl Room {
 
     /// Whether the member's latest meeting is full, and it has not left since.
     pub(crate) fn ready(&self, rank: u32) -> bool
-        ensures { result ≡ is_due self.now rank }
+        ensures due { result ≡ is_due self.now rank }
+        ensures whole { IsWhole self.now }
     {
         let rank = rank as usize;
         if rank < self.made.len() {
@@ -158,6 +222,7 @@ impl Room {
         requires { is_due self.old rank ≡ true }
         ensures gets { slice_get self.old.results rank ≡ Some result }
         ensures after { self.new ≡ departed self.old rank }
+        ensures whole { IsWhole self.old }
     {
         self.gone[rank as usize] = self.made[rank as usize];
         mem::replace(&mut self.results[rank as usize], Words::of(Vec::new(alloc)))

@@ -1,7 +1,7 @@
-use Rattle.std.proofs.Common.{◌∙◌, ap}
-use Rattle.std.specs.Prelude.{slice_get}
-use Rattle.mpi_coll.proofs.Absent.{absent_differs}
+use Rattle.std.proofs.Common.{◌∙◌}
+use Rattle.mpi_coll.proofs.Together.{tells-differs_at}
 use Rattle.mpi_coll.proofs.meetings.Meetings.differs.Goals as goal
 
-pub returns-in-None : goal.returns-in-None
-returns-in-None c = absent_differs c.args.self.now c.args.comm c.args.rank c.args.coll.now (c.in-None.ensures ∙ ap (λ rooms. slice_get rooms c.args.comm) (c.as_slice.ensures.value ∙ c.self.view_is))
+pub returns-clause-differs : goal.returns-clause-differs
+returns-clause-differs c = λ comms arrivals all within.
+    c.differs_at.ensures.value ∙ tells-differs_at c.args.self.now comms arrivals all c.args.comm c.differs_at.ensures.whole c.args.rank c.args.coll.now within

@@ -1,7 +1,7 @@
-use Rattle.std.proofs.Common.{◌∙◌, ap}
-use Rattle.std.specs.Prelude.{slice_get}
-use Rattle.mpi_coll.proofs.Absent.{absent_due}
+use Rattle.std.proofs.Common.{◌∙◌}
+use Rattle.mpi_coll.proofs.Together.{tells-is_due}
 use Rattle.mpi_coll.proofs.meetings.Meetings.ready.Goals as goal
 
-pub returns-in-None : goal.returns-in-None
-returns-in-None c = absent_due c.args.self.now c.args.comm c.args.rank (c.in-None.ensures ∙ ap (λ rooms. slice_get rooms c.args.comm) (c.as_slice.ensures.value ∙ c.self.view_is))
+pub returns-clause-ready : goal.returns-clause-ready
+returns-clause-ready c = λ comms arrivals all.
+    c.is_due.ensures.value ∙ tells-is_due c.args.self.now comms arrivals all c.args.comm c.is_due.ensures.whole c.args.rank

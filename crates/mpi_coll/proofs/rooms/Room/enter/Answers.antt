@@ -1,4 +1,4 @@
-use Rattle.std.proofs.Common.{◌≡◌, ◌<◌, ◌+◌, ◌-◌, false, length, ◌∙◌, sym, subst, ap, arith}
+use Rattle.std.proofs.Common.{◌≡◌, ◌<◌, ◌+◌, false, length, ◌∙◌, sym, subst, ap, arith}
 use Rattle.std.proofs.lemmas.List.{length-set}
 use Rattle.mpi_coll.specs.Rooms.{Tables, place_of, is_last, entered}
 use Rattle.mpi_coll.proofs.Fields.{come_fits, enter_is, enter_whole, waits_read}

@@ -2,7 +2,7 @@ use Rattle.std.proofs.Common.{◌≡◌, ◌<◌, ◌-◌, Some, None, length, �
 use Rattle.std.specs.Prelude.{slice_get}
 use Rattle.mpi_coll.specs.Rooms.{Tables, differs_in}
 use Rattle.mpi_coll.proofs.Fields.{differs_read}
-use Rattle.mpi_coll.proofs.rooms.Room.differs.Goals as goal
+use Rattle.mpi_coll.proofs.rooms.Room.differs_next.Goals as goal
 
 pub returns-in-Some : goal.returns-in-Some
 returns-in-Some c =
