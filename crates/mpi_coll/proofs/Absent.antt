@@ -40,3 +40,9 @@ due-there rooms comm rank due = elim (cases_lt comm (length rooms)) [
   | inl lt ↦ lt
   | inr ge ↦ absurd (false≢true (absent_due rooms comm rank (sym (slice_get_past rooms comm ge)) ∙ due))
 ]
+
+pub absent_members : (rooms : List Tables) (comm : ℕ) → None ≡ slice_get rooms comm → 0 ≡ size_in (room_at rooms comm)
+absent_members rooms comm h = sym (ap size_in (none_there rooms comm h))
+
+pub absent_made : (rooms : List Tables) (comm rank : ℕ) → None ≡ slice_get rooms comm → 0 ≡ made_by (room_at rooms comm) rank
+absent_made rooms comm rank h = sym (ap (λ (t : Tables). made_by t rank) (none_there rooms comm h))

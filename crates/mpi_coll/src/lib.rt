@@ -22,4 +22,6 @@ pub use meetings::Meetings;
 pub use steps::tables_follow_the_arrivals;
 
 #[cfg(test)]
+mod meeting_tests;
+#[cfg(test)]
 mod tests;

@@ -8,7 +8,7 @@ ghost use Rattle.mpi_comm.specs.Making.{new_comm};
 ghost use Rattle.mpi_comm.specs.Seen.{seen_all, seen_at, alive, members_at};
 ghost use Rattle.mpi_coll.specs.declared.arrivals.Arrival.{Arrival};
 ghost use Rattle.mpi_coll.specs.Meetings.{next_meeting, latest_arrival, meeting_of, differs};
-ghost use Rattle.mpi_coll.specs.Rooms.{begun, made_by, IsWhole};
+ghost use Rattle.mpi_coll.specs.Rooms.{begun, size_in, made_by, IsWhole};
 ghost use Rattle.mpi_coll.specs.Shown.{is_ready, gotten};
 ghost use Rattle.mpi_coll.specs.Kept.{room_at, opened_as, differs_at, is_due_at, answer_of};
 ghost use Rattle.mpi_coll.specs.Together.{makes_comms, members_of, ShowsAll, FitsSize, Arrives, Leaves, Stays};
@@ -176,6 +176,31 @@ impl Meetings {
             self.rooms[place] = Room::new(self.alloc, members)?;
         }
         Ok(())
+    }
+}
+
+#[cfg(test)]
+impl Meetings {
+    /// How many members the tables of a communicator have, 0 where there are none yet.
+    #[tactic(auto, using(crate::proofs::Absent::absent_members))]
+    pub fn members(&self, comm: u32) -> u32
+        ensures { result ≡ size_in (room_at self.now comm) }
+    {
+        match at(self.rooms.as_slice(), comm as usize) {
+            Some(room) => room.size(),
+            None => 0,
+        }
+    }
+
+    /// How often a member has arrived.
+    #[tactic(auto, using(crate::proofs::Absent::absent_made))]
+    pub fn made(&self, comm: u32, rank: u32) -> u32
+        ensures { result ≡ made_by (room_at self.now comm) rank }
+    {
+        match at(self.rooms.as_slice(), comm as usize) {
+            Some(room) => room.made(rank),
+            None => 0,
+        }
     }
 }
 

@@ -229,6 +229,21 @@ impl Room {
     }
 }
 
+#[cfg(test)]
+impl Room {
+    ghost use Rattle.mpi_coll.specs.Rooms.{made_by};
+
+    /// How often a member has arrived.
+    pub(crate) fn made(&self, rank: u32) -> u32
+        ensures { result ≡ made_by self.now rank }
+    {
+        match self.made.get(rank as usize) {
+            Some(made) => *made,
+            None => 0,
+        }
+    }
+}
+
 /// The meeting of a place among those that wait.
 fn at_place(waiting: &[Gathering], place: usize) -> Option<&Gathering>
     ensures { option_copied result ≡ slice_get waiting.now place }

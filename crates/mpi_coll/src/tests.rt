@@ -1,12 +1,13 @@
 //! What members get, by hand, and the laws, called once.
 
 use crate::comparing::agrees;
-use crate::results::results;
+use crate::meeting_tests::arrives;
 use crate::{
-    arguments_are_looked_at_where_they_count, members_get_their_results, members_meet_in_turn,
-    tables_follow_the_arrivals,
+    Meetings, arguments_are_looked_at_where_they_count, members_get_their_results,
+    members_meet_in_turn, tables_follow_the_arrivals,
 };
 use mpc_values::{Coll, CollKind, Datatype, Op, Word, Words};
+use mpi_comm::Comms;
 use std::process::Abort;
 use std::test::*;
 
@@ -32,7 +33,7 @@ fn call(what: CollKind, count: i32) -> Coll {
 }
 
 /// Compares what the members get with what is wanted: of each member the number of its words, and then these. Each member
-/// gives as many of the numbers, in rank order.
+/// gives as many of the numbers, in rank order. All arrive in the reverse order, and then leave.
 fn gives<R: AllocGlobal + Abort>(
     rt: &R,
     coll: &Coll,
@@ -48,11 +49,27 @@ fn gives<R: AllocGlobal + Abort>(
         }
         all.push(Words::of(words))?;
     }
-    assert!(rt; all.len() < 100);
+    assert!(rt; all.len() > 0 && all.len() < 100);
     let members = all.len() as u32;
-    let got = results(rt.alloc(), coll, all.as_slice(), members)?;
+    let mut comms = Comms::new(rt.alloc(), members)?;
+    let mut meetings = Meetings::new(rt.alloc(), members)?;
+    let mut rank = members;
+    for words in all.iter().rev() {
+        rank = rank.saturating_sub(1);
+        let answer = arrives(
+            rt,
+            &mut meetings,
+            &mut comms,
+            (1, rank),
+            coll,
+            words.as_slice(),
+        )?;
+        assert_eq!(rt; answer, Ok(()));
+    }
     let mut told = Vec::new(rt.alloc());
-    for words in &got {
+    for rank in 0..members {
+        assert!(rt; meetings.ready(1, rank));
+        let words = meetings.leave(1, rank);
         told.push(words.as_slice().len() as i64)?;
         for word in words.as_slice() {
             match word {

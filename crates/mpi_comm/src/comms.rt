@@ -101,7 +101,7 @@ impl Comms {
     }
 
     /// How many communicators were made.
-    pub(crate) fn count(&self) -> usize
+    pub fn count(&self) -> usize
         ensures { result ≡ length self.now }
     {
         self.list.len()
