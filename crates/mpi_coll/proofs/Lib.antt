@@ -19,3 +19,4 @@ pub mod Numbered
 pub mod Together
 pub mod Coming
 pub mod First
+pub mod Conditions

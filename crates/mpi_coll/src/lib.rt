@@ -12,6 +12,7 @@ mod reducing;
 mod results;
 mod rooms;
 mod shares;
+mod standing;
 mod steps;
 
 pub use arrivals::Arrival;
@@ -19,6 +20,7 @@ pub use laws::{
     arguments_are_looked_at_where_they_count, members_get_their_results, members_meet_in_turn,
 };
 pub use meetings::Meetings;
+pub use standing::standing_tables_meet_the_conditions;
 pub use steps::tables_follow_the_arrivals;
 
 #[cfg(test)]

@@ -4,7 +4,7 @@ use crate::comparing::agrees;
 use crate::meeting_tests::arrives;
 use crate::{
     Meetings, arguments_are_looked_at_where_they_count, members_get_their_results,
-    members_meet_in_turn, tables_follow_the_arrivals,
+    members_meet_in_turn, standing_tables_meet_the_conditions, tables_follow_the_arrivals,
 };
 use mpc_values::{Coll, CollKind, Datatype, Op, Word, Words};
 use mpi_comm::Comms;
@@ -257,5 +257,6 @@ fn laws_are_called(_rt: HostRuntime) -> Result<(), Fail> {
     members_meet_in_turn();
     arguments_are_looked_at_where_they_count();
     tables_follow_the_arrivals();
+    standing_tables_meet_the_conditions();
     Ok(())
 }
