@@ -9,6 +9,8 @@ use Rattle.run_model.specs.Outcomes.{Waits as Stays}
 use Rattle.node_core.specs.declared.parts.OwnPart.{OwnPart}
 use Rattle.node_core.specs.declared.parts.TaskPart.{TaskPart}
 use Rattle.node_core.specs.declared.parts.Shared.{Shared}
+use Rattle.mem_space.specs.Spaces.{Space}
+use Rattle.mem_space.specs.Places.{IsAsBefore}
 use Rattle.node_core.specs.Built.{SameOwn}
 use Rattle.node_core.specs.Each.{Each}
 use Rattle.node_core.specs.Stands.{OwnStands, PartStands, Serves, Leaves, Follows, CoreStands}
@@ -53,6 +55,16 @@ pub parts_same : (parts : List TaskPart) (task : ℕ) (part part' : TaskPart) �
 parts_same parts task part part' at same =
     subst (λ ps. Each SamePart ps (slice_set parts task part')) (set_same parts task part at) (each_set SamePart parts parts task part part' (each_same SamePart parts same_part) same)
 
+-- a space is as it is
+pub same_space : (s : Space) → IsAsBefore s s
+same_space s = record {
+  places = record { rows = refl; cells = λ p. refl; end = omega arith; copies = refl };
+  objects = λ owner obj. refl;
+  sharing = refl;
+  quota = refl;
+  made = refl;
+}
+
 -- a state is as it is
 pub same_state : (s : State) → SameState s s
-same_state s = record { tasks = each_same SamePart s.tasks.items same_part; shared = record { comms = refl }; last = refl }
+same_state s = record { tasks = each_same SamePart s.tasks.items same_part; shared = record { space = same_space s.shared.space; comms = refl }; last = refl }

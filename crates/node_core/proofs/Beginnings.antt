@@ -14,12 +14,12 @@ use Rattle.run_model.specs.Steps.{answers_of}
 use Rattle.run_model.proofs.Answers.{none_yet}
 use Rattle.run_model.proofs.Runs.{run_from-none}
 use Rattle.node_core.specs.IsRun.{IsRun}
-use Rattle.run_model.specs.Start.{start, first_task, first_course}
+use Rattle.run_model.specs.Start.{start, first_core, first_task, first_course}
 use Rattle.node_core.specs.declared.parts.TaskPart.{TaskPart}
 use Rattle.node_core.specs.declared.parts.State.{State}
 use Rattle.mpi_comm.specs.Seen.{seen_all}
 use Rattle.node_core.specs.Each.{Each}
-use Rattle.node_core.specs.Stands.{PartStands, NoRequests, Stands, course_in, courses_in}
+use Rattle.node_core.specs.Stands.{PartStands, NoRequests, SpaceStands, IsSpaceOf, Stands, course_in, courses_in}
 use Rattle.node_core.specs.Starts.{IsFirst}
 use Rattle.node_core.specs.Steps.{NotedFits, AllFit}
 
@@ -39,9 +39,9 @@ first_courses : (parts : List TaskPart) → ((i : ℕ) (part : TaskPart) → sli
 first_courses [] h = refl
 first_courses (x ∷ parts) h = ap (λ c. c ∷ replicate (length parts) first_course) (sym (h 0 x refl)) ∙ ap (λ cs. x.course ∷ cs) (first_courses parts (λ i part at. h (suc i) part at))
 
-pub starts : (setup : Setup) (s : State) (tasks : ℕ) → length s.tasks.items ≡ tasks → All IsFirst s.tasks.items → s.shared.matching.comms ≡ seen_all (comm_world tasks ∷ []) → s.last ≡ None → tasks_of setup ≡ tasks
+pub starts : (setup : Setup) (s : State) (tasks : ℕ) → length s.tasks.items ≡ tasks → All IsFirst s.tasks.items → s.shared.matching.comms ≡ seen_all (comm_world tasks ∷ []) → s.last ≡ None → tasks_of setup ≡ tasks → SpaceStands (first_core setup) s.shared.space
     → Stands (start setup) s
-starts setup s tasks count first comms last are = record {
+starts setup s tasks count first comms last are space = record {
   core = record {
     tasks = record {
       same = length_replicate (tasks_of setup) first_task ∙ are ∙ sym count;
@@ -51,6 +51,7 @@ starts setup s tasks count first comms last are = record {
           record { output = ap (λ (x : TaskState). x.output) (sym same) ∙ sym f.output; phase = ap (λ (x : TaskState). x.phase) (sym same) ∙ sym f.phase };
     };
     all = record {
+      space = space;
       met = record {
         comms = ap (λ n. seen_all (comm_world n ∷ [])) are ∙ sym comms;
         requests = λ i own here. sym (get_replicate (tasks_of setup) [] own i here);
@@ -70,14 +71,15 @@ pub all_fit_first : (parts : List TaskPart) → All IsFirst parts → AllFit par
 all_fit_first parts first i part at = subst (λ (c : Course). NotedFits c.noted) (sym (first_at parts i part first at).course) tt
 
 -- a node begins with the run of no entry
-pub begins : (setup : Setup) (s : State) (e : End) → Valid setup → Stands (start setup) s → AllFit s.tasks.items → ((setup' : Setup) (w : World) → Stands w s → e ≡ ending setup' w) → IsRun setup [] s e None
-begins setup s e valid stands noted ends =
+pub begins : (setup : Setup) (s : State) (e : End) → Valid setup → Stands (start setup) s → IsSpaceOf setup s.shared.space → AllFit s.tasks.items → ((setup' : Setup) (w : World) → Stands w s → e ≡ ending setup' w) → IsRun setup [] s e None
+begins setup s e valid stands set noted ends =
     let same : world_of setup [] ≡ start setup = ap (λ (r : Ran). r.world) (run_from-none setup (at_start setup)) in
     let there : Stands (world_of setup []) s = subst (λ w. Stands w s) (sym same) stands in
     record {
       valid = valid;
       legal = ap (λ (r : Ran). r.entries) (run_from-none setup (at_start setup));
       stands = there;
+      set = set;
       noted = noted;
       ended = ends setup (world_of setup []) there;
       stopped = tt;

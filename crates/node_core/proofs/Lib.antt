@@ -1,6 +1,8 @@
 pub mod Places
 pub mod Members
+pub mod FirstSpace
 pub mod Lifts
+pub mod MemoryLifts
 pub mod OwnLifts
 pub mod GroupLifts
 pub mod All

@@ -1,15 +1,16 @@
 -- What the node does to the parts of one call is what the call comes to in every core that they stand for.
-use Rattle.std.proofs.Common.{◌≡◌, ◌<◌, ℕ, List, length, slice_set, Result, Ok, Err, OnErr, refl, sym, ap, subst, ◌∙◌}
+use Rattle.std.proofs.Common.{◌≡◌, ◌<◌, ◌⊎◌, inl, inr, ℕ, List, length, slice_get, slice_set, Some, Result, Ok, Err, OnErr, refl, sym, ap, subst, ◌∙◌}
 use Rattle.mpc_values.specs.declared.answers.Answer.{Answer}
 use Rattle.mpc_values.specs.declared.faults.Fault.{Fault}
 use Rattle.run_model.specs.World.{TaskState, Core}
-use Rattle.run_model.specs.Outcomes.{Outcome, Does, Fails, Partly, on_part, state_of, with_state}
+use Rattle.run_model.specs.Outcomes.{Outcome, Does, Fails, Partly, on_part, state_of, state_at, with_state}
 use Rattle.node_core.specs.declared.parts.OwnPart.{OwnPart}
 use Rattle.node_core.specs.declared.parts.Shared.{Shared}
+use Rattle.mem_space.specs.Spaces.{made_in}
 use Rattle.node_core.specs.Seen.{partly_seen}
 use Rattle.node_core.specs.Built.{out_of}
 use Rattle.node_core.specs.Stands.{OwnStands, MatchingStands, SharedStands, Serves, Leaves, Follows}
-use Rattle.node_core.proofs.Places.{length_set, state_of-with, set_state_same}
+use Rattle.node_core.proofs.Places.{get_set_other, length_set, get_there, state_of-with, set_state_same, same_or_other, set_at}
 
 -- the outcome of a call that changes nothing
 abbrev pub outcome_of : Core → Result Answer Fault → Outcome
@@ -30,9 +31,24 @@ pub follows_same : (core : Core) (task : ℕ) (shared : Shared) (own : OwnPart) 
 follows_same core task shared own (Ok answer) outcome s e = (core, e, record { serves = s; others = sym (set_state_same core task s.there) })
 follows_same core task shared own (Err fault) outcome s e = (e, s)
 
+pub state_there : (core : Core) (task : ℕ) → task < length core.tasks → slice_get core.tasks task ≡ Some (state_of core task)
+state_there core task there =
+    let (state, at) = get_there core.tasks task there in
+    at ∙ ap Some (sym (ap state_at at))
+
 -- what tasks share does not look at what a task keeps for itself
-shared_with : (core : Core) (task : ℕ) (shared : Shared) (state : TaskState) → state.made ≡ (state_of core task).made → SharedStands core shared → SharedStands (with_state core task state) shared
-shared_with core task shared state made all = record {
+shared_with : (core : Core) (task : ℕ) (shared : Shared) (state : TaskState) → task < length core.tasks → state.made ≡ (state_of core task).made → SharedStands core shared → SharedStands (with_state core task state) shared
+shared_with core task shared state there made all = record {
+  space = record {
+    memory = all.space.memory;
+    made = λ i x at.
+        elim (same_or_other i task) [
+          | inl same ↦ ap (λ (t : TaskState). t.made) (sym (set_at core.tasks task i state x same at)) ∙ made
+              ∙ all.space.made task (state_of core task) (state_there core task there) ∙ ap (made_in shared.space) (sym same)
+          | inr other ↦ all.space.made i x (sym (get_set_other core.tasks task i state other) ∙ at)
+        ];
+    marks = all.space.marks;
+  };
   met = record { comms = all.met.comms; requests = all.met.requests; postings = all.met.postings; carried = all.met.carried; arrivals = all.met.arrivals };
   visits = all.visits;
   exits = all.exits;
@@ -47,7 +63,7 @@ leaves_own core task shared own own' state s mine made =
       serves = record {
         there = there;
         mine = subst (λ (x : TaskState). OwnStands x own') (sym (state_of-with core task state s.there)) mine;
-        all = shared_with core task shared state made s.all;
+        all = shared_with core task shared state s.there made s.all;
       };
       others = ap (slice_set core.tasks task) (sym (state_of-with core task state s.there));
     }

@@ -1,5 +1,5 @@
 -- A visit keeps the run.
-use Rattle.std.proofs.Common.{◌≡◌, ◌≢◌, ◌<◌, ◌≤◌, ◌+◌, ◌-◌, ◌^◌, ◌||◌, ◌&&◌, ◌⊎◌, inl, inr, not, ℕ, zero, suc, Bool, true, false, List, [], ◌∷◌, ◌++◌, if◌then◌else◌, length, slice_get, All, Option, Some, None, IfSome, refl, sym, ap, subst, ◌∙◌, arith}
+use Rattle.std.proofs.Common.{◌≡◌, ◌≢◌, ◌<◌, ◌≤◌, ◌+◌, ◌-◌, ◌^◌, ◌||◌, ◌&&◌, ◌⊎◌, inl, inr, not, ℕ, zero, suc, Bool, true, false, List, [], ◌∷◌, ◌++◌, if◌then◌else◌, length, slice_get, slice_index, All, Option, Some, None, IfSome, refl, sym, ap, subst, ◌∙◌, arith}
 use Rattle.std.specs.Option.{is_some, unwrap_or}
 use Rattle.std.proofs.lemmas.Option.{slice_get_within, get_or_from_slice_get}
 use Rattle.mpc_values.specs.declared.limits.TheConstants.{MAX_CALLS}
@@ -11,7 +11,7 @@ use Rattle.mpc_base.specs.declared.journals.End.TheVariants as end
 use Rattle.c_tree.specs.Asking.{Asks}
 use Rattle.c_tree.specs.Next.{next_of}
 use Rattle.run_model.specs.declared.progress.Course.{Course}
-use Rattle.run_model.specs.Setup.{Setup}
+use Rattle.run_model.specs.Setup.{Setup, tasks_of}
 use Rattle.run_model.specs.Valid.{Valid}
 use Rattle.run_model.specs.World.{TaskState, Core, World}
 use Rattle.run_model.specs.Steps.{Step, Stays, Makes, visited, answers_of, entry_of}
@@ -26,15 +26,21 @@ use Rattle.run_model.proofs.Bounds.{bounded}
 use Rattle.node_core.specs.declared.parts.TaskPart.{TaskPart}
 use Rattle.node_core.specs.declared.parts.Shared.{Shared}
 use Rattle.node_core.specs.declared.parts.State.{State}
+use Rattle.block_table.specs.Rows.{Rows, is_send, is_receive}
+use Rattle.memory_model.specs.Marks.{Marks}
+use Rattle.object_heap.specs.Objects.{key_named}
+use Rattle.object_heap.specs.Marks.{mark_where}
+use Rattle.mem_space.specs.Spaces.{Space}
+use Rattle.mem_space.specs.Places.{IsAsBefore}
 use Rattle.node_core.specs.Built.{SameShared}
 use Rattle.node_core.specs.Each.{Each}
-use Rattle.node_core.specs.Stands.{PartStands, MatchingStands, SharedStands, Stands, course_in, courses_in}
+use Rattle.node_core.specs.Stands.{PartStands, MatchingStands, SpaceStands, IsSpaceOf, SharedStands, Stands, course_in, courses_in}
 use Rattle.node_core.specs.Steps.{SamePart, SameState, Stepped, NotedFits, AllFit}
 use Rattle.node_core.specs.Held.{is_going, IsStop}
 use Rattle.node_core.specs.declared.node.Reply.TheVariants.{NotYet, Stop}
 use Rattle.node_core.specs.IsRun.{IsRun, StopsGoing}
 use Rattle.node_core.specs.Visits.{made, made_by, reply_of, reply_in, reply_to}
-use Rattle.node_core.proofs.Places.{get_there, get_map}
+use Rattle.node_core.proofs.Places.{get_there, get_map, length_map}
 use Rattle.node_core.proofs.AskingRuns.{makes_when_going}
 
 -- what the task asks, where it may go and where not
@@ -55,8 +61,23 @@ each_then xs ys zs e f = record {
       record { output = r.output ∙ sym q.own.output; phase = r.phase ∙ sym q.own.phase };
 }
 
+rows_marks : Rows → Marks
+rows_marks rows = record {
+  sent = λ owner obj p. is_send (mark_where rows (key_named rows owner obj) p);
+  received = λ owner obj p. is_receive (mark_where rows (key_named rows owner obj) p);
+}
+
+space_same : (core : Core) (old new : Space) → SpaceStands core old → IsAsBefore old new → SpaceStands core new
+unfolding rows_marks
+space_same core old new stands same = record {
+  memory = λ owner obj. stands.memory owner obj ∙ sym (same.objects owner obj);
+  made = λ i state at. stands.made i state at ∙ ap (λ ms. slice_index ms i) (sym same.made);
+  marks = stands.marks ∙ ap rows_marks (sym same.places.rows);
+}
+
 shared_same : (core : Core) (old new : Shared) → SharedStands core old → SameShared old new → SharedStands core new
 shared_same core old new stands same = record {
+  space = space_same core old.space new.space stands.space same.space;
   met = record { comms = stands.met.comms ∙ sym same.comms; requests = stands.met.requests; postings = stands.met.postings; carried = stands.met.carried; arrivals = stands.met.arrivals };
   visits = stands.visits;
   exits = stands.exits;
@@ -115,6 +136,7 @@ module _ (setup : Setup) (entries : List Entry) (s s' : State) (end' : End) (sto
     valid = is.valid;
     legal = is.legal;
     stands = stands_same (world_of setup entries) s s' is.stands same;
+    set = record { sharing = same.shared.space.sharing ∙ is.set.sharing; quota = same.shared.space.quota ∙ is.set.quota };
     noted = fits_same s.tasks.items s'.tasks.items same.tasks is.noted;
     ended = is.ended;
     stopped = is.stopped;
@@ -178,12 +200,13 @@ module _ (setup : Setup) (entries : List Entry) (s s' : State) (end' : End) (sto
       there : Stands (world_of setup (entries ++ entry_of task call line out ∷ [])) s'
       there = subst (λ w. Stands w s') (sym (world_of-push setup entries (entry_of task call line out) stepped.0 went)) stepped.2
 
-      pub visit_keeps : (e : End) → ((setup : Setup) (w : World) → Stands w s' → e ≡ ending setup w) → AllFit s'.tasks.items → IsRun setup pushed s' e stop
-      visit_keeps e ends noted =
+      pub visit_keeps : (e : End) → ((setup : Setup) (w : World) → Stands w s' → e ≡ ending setup w) → AllFit s'.tasks.items → IsSpaceOf setup s'.shared.space → IsRun setup pushed s' e stop
+      visit_keeps e ends noted set =
           subst (λ o. IsRun setup pushed s' e o) (sym none) (subst (λ es. IsRun setup es s' e None) (sym pushed_is) (record {
             valid = is.valid;
             legal = entries-push setup entries (entry_of task call line out) stepped.0 is.legal went;
             stands = there;
+            set = set;
             noted = noted;
             ended = ends setup (world_of setup (entries ++ entry_of task call line out ∷ [])) there;
             stopped = tt;
@@ -213,6 +236,7 @@ stops setup entries s e stop before is goes one =
       valid = is.valid;
       legal = is.legal;
       stands = is.stands;
+      set = is.set;
       noted = is.noted;
       ended = is.ended;
       stopped = (one, going_is e (ap (λ o. is_going (unwrap_or o e)) (sym none) ∙ goes));
@@ -235,3 +259,11 @@ can_go_is setup entries s e stop task b is none may =
 
 pub cannot_go : (setup : Setup) (entries : List Entry) (stop : Option End) (task : ℕ) → is_some stop ≡ true → false ≡ (not (is_some stop) && can_go setup (world_of setup entries) task)
 cannot_go setup entries stop task some = ap (λ x. not x && can_go setup (world_of setup entries) task) (sym some)
+
+-- a task that has a part is one of the setup's
+pub there_is : (setup : Setup) (entries : List Entry) (s : State) (e : End) (stop : Option End) → IsRun setup entries s e stop → (task : ℕ) → task < length s.tasks.items → task < tasks_of setup
+there_is setup entries s e stop is task less =
+    let long : length (courses_in s.tasks.items) ≡ length s.tasks.items = length_map course_in s.tasks.items in
+    let all : length (world_of setup entries).log.courses ≡ tasks_of setup = (bounded setup (order_of entries)).courses in
+    let same : length (world_of setup entries).log.courses ≡ length (courses_in s.tasks.items) = ap length is.stands.courses in
+    omega (arith, less, long, all, same)

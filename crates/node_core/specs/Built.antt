@@ -6,11 +6,18 @@ use Rattle.mpc_values.specs.declared.answers.Answer.{Answer}
 use Rattle.mpc_values.specs.declared.faults.Fault.{Fault}
 use Rattle.mpc_base.specs.declared.journals.Out.{Out}
 use Rattle.mpc_base.specs.declared.journals.Out.TheVariants.{Waits, Did, Broke}
+use Rattle.mem_space.specs.Places.{IsAsBefore}
 use Rattle.node_core.specs.declared.parts.OwnPart.{OwnPart}
 use Rattle.node_core.specs.declared.parts.Shared.{Shared}
 
 -- the calls that are built
 abbrev pub is_built : Call → Bool
+is_built (call.Load at) = true
+is_built (call.Store at word) = true
+is_built (call.New len) = true
+is_built (call.Drop obj) = true
+is_built (call.Malloc n) = true
+is_built (call.Free at) = true
 is_built (call.Print text) = true
 is_built (call.Broke fault) = true
 is_built (call.Finish code) = true
@@ -53,4 +60,5 @@ pub record SameOwn (old new : OwnPart) : Type 0 where
 
 -- nothing that contracts see of what tasks share has changed
 pub record SameShared (old new : Shared) : Type 0 where
+  pub space : IsAsBefore old.space new.space
   pub comms : new.matching.comms ≡ old.matching.comms

@@ -8,7 +8,7 @@ use Rattle.run_model.specs.Valid.{Valid}
 use Rattle.run_model.specs.Ending.{ending}
 use Rattle.run_model.specs.Run.{run, order_of, world_of}
 use Rattle.node_core.specs.declared.parts.State.{State}
-use Rattle.node_core.specs.Stands.{Stands}
+use Rattle.node_core.specs.Stands.{Stands, IsSpaceOf}
 use Rattle.node_core.specs.Steps.{AllFit}
 use Rattle.node_core.specs.Held.{IsStop}
 
@@ -22,6 +22,7 @@ pub record IsRun (setup : Setup) (entries : List Entry) (state : State) (end : E
   pub valid : Valid setup
   pub legal : (run setup (order_of entries)).entries ≡ entries
   pub stands : Stands (world_of setup entries) state
+  pub set : IsSpaceOf setup state.shared.space
   pub noted : AllFit state.tasks.items
   pub ended : end ≡ ending setup (world_of setup entries)
   pub stopped : StopsGoing stop end

@@ -4,6 +4,12 @@ use Rattle.mpc_base.specs.declared.journals.Out.{Out}
 use Rattle.mpc_base.specs.declared.journals.Out.TheVariants.{Waits, Did, Broke}
 use Rattle.mpi_request.specs.declared.requests.Request.{Request}
 use Rattle.run_model.specs.declared.progress.Course.{Course}
+use Rattle.mpi_request.specs.Pending.{marks_of}
+use Rattle.object_heap.specs.Objects.{Shows}
+use Rattle.object_heap.specs.Marks.{marks_in}
+use Rattle.mem_space.specs.Spaces.{Space, made_in}
+use Rattle.run_model.specs.Setup.{Setup}
+use Rattle.run_model.specs.Owners.{sharing}
 use Rattle.run_model.specs.World.{TaskState, Core, World}
 use Rattle.run_model.specs.Outcomes.{Outcome, Does, Fails, state_of}
 use Rattle.run_model.specs.Outcomes.{Waits as Stays}
@@ -32,8 +38,21 @@ pub record MatchingStands (core : Core) (m : Matching) : Type 0 where
   pub carried : core.carried ≡ []
   pub arrivals : core.arrivals ≡ []
 
+-- the space of all tasks stands for a core: it holds the memories, has counted the objects that each task made, and has
+-- marked the places of active requests
+pub record SpaceStands (core : Core) (space : Space) : Type 0 where
+  pub memory : Shows space.heap core.memory
+  pub made : (i : ℕ) (state : TaskState) → slice_get core.tasks i ≡ Some state → state.made ≡ made_in space i
+  pub marks : marks_of core.requests ≡ marks_in space.heap
+
+-- a space is that of a setup
+pub record IsSpaceOf (setup : Setup) (space : Space) : Type 0 where
+  pub sharing : space.sharing ≡ sharing setup
+  pub quota : space.quota ≡ setup.quota
+
 -- what tasks share stands for a core
 pub record SharedStands (core : Core) (shared : Shared) : Type 0 where
+  pub space : SpaceStands core shared.space
   pub met : MatchingStands core shared.matching
   pub visits : core.visits ≡ []
   pub exits : core.exits ≡ []

@@ -1,13 +1,14 @@
 //! What becomes of a call, on the parts that it touches.
-ghost use Rattle.std.specs.Prelude.{◌≡◌, IfOk, OnErr};
+ghost use Rattle.std.specs.Prelude.{◌≡◌, ◌<◌, IfOk, OnErr};
 ghost use Rattle.mpc_values.specs.declared.calls.Call.{Call as TheCall};
 ghost use Rattle.run_model.specs.World.{Core};
-ghost use Rattle.run_model.specs.Setup.{setup_of};
+ghost use Rattle.run_model.specs.Setup.{setup_of, tasks_of};
 ghost use Rattle.run_model.specs.Act.{act};
-ghost use Rattle.node_core.specs.Stands.{Serves, Follows};
+ghost use Rattle.node_core.specs.Stands.{Serves, Follows, IsSpaceOf};
 ghost use Rattle.node_core.specs.Built.{IsBuilt, out_of, OnWaits, SameOwn, SameShared};
 
 use crate::group_calls::{abort, rank, size};
+use crate::memory_calls::{end_block, end_local, load, new_block, new_local, store};
 use crate::own_calls::{finalize, finish, init, print};
 use crate::parts::{OwnPart, Shared};
 use mpc_base::{Answer, Call, Fault, Memory, Out};
@@ -31,13 +32,22 @@ pub fn act(
     own: &mut OwnPart,
     call: &Call,
 ) -> Result<Out, Memory>
+    requires there { task < tasks_of (setup_of setup.now) }
+    requires set { IsSpaceOf (setup_of setup.now) shared.old.space }
     requires built { IsBuilt call.now }
     ensures ok { IfOk result (λ out. (core : Core) → Serves core task shared.old own.old → Follows core task shared.new own.new out (act (setup_of setup.now) core task call.now)) }
+    ensures set { IsSpaceOf (setup_of setup.now) shared.new.space }
     ensures waits { IfOk result (OnWaits call.now) }
     ensures err { OnErr result (SameOwn own.old own.new) }
     ensures err_shared { OnErr result (SameShared shared.old shared.new) }
 {
     match call {
+        Call::Load { at } => Ok(out_of(load(&shared.space, task, *at))),
+        Call::Store { at, word } => Ok(out_of(store(&mut shared.space, task, *at, *word))),
+        Call::New { len } => Ok(out_of(new_local(&mut shared.space, task, *len)?)),
+        Call::Drop { obj } => Ok(out_of(end_local(&mut shared.space, task, *obj))),
+        Call::Malloc { n } => Ok(out_of(new_block(&mut shared.space, task, n)?)),
+        Call::Free { at } => Ok(out_of(end_block(&mut shared.space, task, *at))),
         Call::Broke { fault } => Ok(Out::Broke(*fault)),
         Call::Print { text } => Ok(out_of(print(&mut own.output, text.as_slice())?)),
         Call::Finish { code } => Ok(out_of(finish(own.phase, code))),

@@ -7,6 +7,7 @@ mod comms;
 mod ends;
 mod group_calls;
 mod logs;
+mod memory_calls;
 mod node;
 mod own_calls;
 mod parts;

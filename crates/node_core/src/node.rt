@@ -1,6 +1,7 @@
 //! The node: the state and the journal of a run.
-ghost use Rattle.std.specs.Prelude.{◌≡◌, ◌<◌, ◌-◌, ◌^◌, ◌∷◌, ◌++◌, ◌&&◌, [], length, slice_get, is_some, unwrap_or, not, None, IfOk, OnOk, OnErr, IfSome};
+ghost use Rattle.std.specs.Prelude.{◌≡◌, ◌<◌, ◌≤◌, ◌-◌, ◌^◌, ◌∷◌, ◌++◌, ◌&&◌, [], length, slice_get, is_some, unwrap_or, not, true, None, IfOk, OnOk, OnErr, IfSome};
 ghost use Rattle.mpc_values.specs.CallTable.{call_number};
+ghost use Rattle.mpc_values.specs.declared.limits.TheConstants.{MAX_TASKS};
 ghost use Rattle.c_tree.specs.Asking.{Asks};
 ghost use Rattle.c_tree.specs.Next.{next_of};
 ghost use Rattle.run_model.specs.Setup.{setup_of, tasks_of};
@@ -11,7 +12,7 @@ ghost use Rattle.run_model.specs.Go.{go};
 ghost use Rattle.run_model.specs.Choice.{can_go};
 ghost use Rattle.run_model.specs.Run.{LegalRun};
 ghost use Rattle.node_core.specs.Built.{IsBuilt};
-ghost use Rattle.node_core.specs.Stands.{Stands};
+ghost use Rattle.node_core.specs.Stands.{Stands, IsSpaceOf};
 ghost use Rattle.node_core.specs.Steps.{SameState, Stepped, AllFit};
 ghost use Rattle.node_core.specs.Held.{world_in, end_of, is_going, IsStop, stop_after};
 ghost use Rattle.node_core.specs.Visits.{made_by, reply_in, reply_to};
@@ -82,10 +83,13 @@ fn visit_with(
     line: u32,
 ) -> Result<Out, Memory>
     requires there { task < length state.old.tasks.items }
+    requires one { task < tasks_of (setup_of setup.now) }
+    requires set { IsSpaceOf (setup_of setup.now) state.old.shared.space }
     requires built { IsBuilt call.now }
     requires room { IfSome (slice_get state.old.tasks.items task) (λ part. part.course.entries < 2 ^ 32 - 1) }
     ensures ok { IfOk result (λ out. (w : World) → Stands w state.old → Stepped (setup_of setup.now) w task call.now line out state.new) }
     ensures entry { IfOk result (λ out. entries.new ≡ entries.old ++ entry_of task call.now line out ∷ []) }
+    ensures set { IsSpaceOf (setup_of setup.now) state.new.shared.space }
     ensures noted { OnOk result (AllFit state.old.tasks.items → AllFit state.new.tasks.items) }
     ensures err { OnErr result (SameState state.old state.new) }
     ensures err_entries { OnErr result (entries.new ≡ entries.old) }
@@ -149,7 +153,7 @@ impl Node {
         ensures { IfOk result (λ node. node ≡ record { setup = setup; entries = []; stop = None }) }
     {
         let tasks = setup.cores.as_slice().len() as u32;
-        let state = State::new(alloc, tasks)?;
+        let state = State::new(alloc, &setup)?;
         let end = state.ending_after(0);
         let entries = Vec::new(alloc);
         Ok(Node {
@@ -222,9 +226,18 @@ impl Node {
         how_stands(self.stop, self.end)
     }
 
+    /// How many tasks there are, 1 to 64.
+    pub fn tasks(&self) -> u32
+        ensures tasks { result ≡ tasks_of (setup_of self.now.setup) }
+        ensures few { result ≤ MAX_TASKS }
+    {
+        self.journal.tasks
+    }
+
     /// Whether a task can go: the node was not stopped, and a step of the task makes an entry.
     pub fn can_go(&self, task: u32) -> bool
-        ensures { result ≡ (not (is_some self.now.stop) && can_go (setup_of self.now.setup) (world_in self.now) task) }
+        ensures goes { result ≡ (not (is_some self.now.stop) && can_go (setup_of self.now.setup) (world_in self.now) task) }
+        ensures there { result ≡ true → task < tasks_of (setup_of self.now.setup) }
     {
         if self.stop.is_some() {
             return false;

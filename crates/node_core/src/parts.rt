@@ -1,5 +1,6 @@
 //! What stands of a run, by parts: the world of the definitions, without the lists that only grow.
 
+use mem_space::Space;
 use mpi_comm::Comms;
 use run_model::{Course, Last, Phase};
 
@@ -26,6 +27,8 @@ pub struct Matching {
 /// What all tasks share.
 #[derive(Debug, Drop)]
 pub struct Shared {
+    /// The memories of all tasks, with the marks of messages under way.
+    pub space: Space,
     pub matching: Matching,
 }
 

@@ -1,10 +1,10 @@
 //! One visit of a task, on the state.
 ghost use Rattle.std.specs.Prelude.{◌≡◌, ◌<◌, ◌-◌, ◌^◌, length, slice_get, IfOk, OnOk, OnErr, IfSome};
 ghost use Rattle.run_model.specs.World.{World};
-ghost use Rattle.run_model.specs.Setup.{setup_of};
+ghost use Rattle.run_model.specs.Setup.{setup_of, tasks_of};
 ghost use Rattle.run_model.specs.Steps.{course_after};
 ghost use Rattle.node_core.specs.Built.{IsBuilt, OnWaits, SameOwn, SameShared};
-ghost use Rattle.node_core.specs.Stands.{Stands};
+ghost use Rattle.node_core.specs.Stands.{Stands, IsSpaceOf};
 ghost use Rattle.node_core.specs.Steps.{Tried, SamePart, SameState, Stepped, AllFit};
 
 use crate::act::act;
@@ -22,8 +22,11 @@ fn try_call(
     entries: u32,
     call: &Call,
 ) -> Result<Out, Memory>
+    requires there { task < tasks_of (setup_of setup.now) }
+    requires set { IsSpaceOf (setup_of setup.now) shared.old.space }
     requires built { IsBuilt call.now }
     ensures ok { IfOk result (Tried (setup_of setup.now) entries task call.now shared.old own.old shared.new own.new) }
+    ensures set { IsSpaceOf (setup_of setup.now) shared.new.space }
     ensures waits { IfOk result (OnWaits call.now) }
     ensures err { OnErr result (SameOwn own.old own.new) }
     ensures err_shared { OnErr result (SameShared shared.old shared.new) }
@@ -43,10 +46,13 @@ fn step_part(
     call: &Call,
     line: u32,
 ) -> Result<Out, Memory>
+    requires there { task < tasks_of (setup_of setup.now) }
+    requires set { IsSpaceOf (setup_of setup.now) shared.old.space }
     requires built { IsBuilt call.now }
     requires room { part.old.course.entries < 2 ^ 32 - 1 }
     ensures ok { IfOk result (Tried (setup_of setup.now) part.old.course.entries task call.now shared.old part.old.own shared.new part.new.own) }
     ensures course { IfOk result (λ out. part.new.course ≡ course_after part.old.course call.now line out) }
+    ensures set { IsSpaceOf (setup_of setup.now) shared.new.space }
     ensures waits { IfOk result (OnWaits call.now) }
     ensures err { OnErr result (SamePart part.old part.new) }
     ensures err_shared { OnErr result (SameShared shared.old shared.new) }
@@ -63,9 +69,12 @@ impl State {
     /// contracts see has changed.
     pub fn step(&mut self, setup: &Setup, task: u32, call: &Call, line: u32) -> Result<Out, Memory>
         requires there { task < length self.old.tasks.items }
+        requires one { task < tasks_of (setup_of setup.now) }
+        requires set { IsSpaceOf (setup_of setup.now) self.old.shared.space }
         requires built { IsBuilt call.now }
         requires room { IfSome (slice_get self.old.tasks.items task) (λ part. part.course.entries < 2 ^ 32 - 1) }
         ensures ok { IfOk result (λ out. (w : World) → Stands w self.old → Stepped (setup_of setup.now) w task call.now line out self.new) }
+        ensures set { IsSpaceOf (setup_of setup.now) self.new.shared.space }
         ensures noted { OnOk result (AllFit self.old.tasks.items → AllFit self.new.tasks.items) }
         ensures err { OnErr result (SameState self.old self.new) }
     {

@@ -1,10 +1,10 @@
-use Rattle.std.proofs.Common.{◌≡◌, ◌∙◌, ap, sym, subst, List}
+use Rattle.std.proofs.Common.{◌≡◌, ◌∙◌, refl, ap, sym, subst, List}
 use Rattle.mpc_base.specs.declared.journals.Entry.{Entry}
 use Rattle.run_model.specs.Setup.{setup_of}
 use Rattle.run_model.specs.Run.{world_of}
 use Rattle.node_core.specs.Held.{is_going}
 use Rattle.node_core.specs.IsRun.{IsRun}
-use Rattle.node_core.proofs.Visiting.{ended_entries, ended_reply, held_entries, held_reply, keeps_same, room_is, visit_keeps, went_entries, went_reply}
+use Rattle.node_core.proofs.Visiting.{ended_entries, ended_reply, held_entries, held_reply, keeps_same, room_is, there_is, visit_keeps, went_entries, went_reply}
 use Rattle.node_core.proofs.node.Node.visit.Goals as goal
 
 pub returns-then-not-is_going-clause-entries : goal.returns-then-not-is_going-clause-entries
@@ -34,6 +34,10 @@ visit_with-requires-clause-room c =
     room_is (setup_of c.self.inside.setup) c.self.inside.journal.entries c.self.inside.state c.self.inside.state c.self.inside.end c.self.inside.stop c.self.invariant.0 c.args.task
     (c.if-not-may_go.ensures.may (setup_of c.self.inside.setup) (world_of (setup_of c.self.inside.setup) c.self.inside.journal.entries) c.self.invariant.0.stands)
 
+pub visit_with-requires-clause-one : goal.visit_with-requires-clause-one
+visit_with-requires-clause-one c =
+    there_is (setup_of c.self.inside.setup) c.self.inside.journal.entries c.self.inside.state c.self.inside.end c.self.inside.stop c.self.invariant.0 c.args.task (c.if-not-may_go.ensures.there refl)
+
 pub invariant_of-self : goal.invariant_of-self
 invariant_of-self c = (
   subst (λ (es : List Entry). IsRun (setup_of c.self.inside.setup) es c.visit_with.new.state c.self.inside.end c.self.inside.stop) (sym c.in_err-out.ensures.err_entries)
@@ -47,7 +51,7 @@ invariant_of-self-2 c = (
       (rw (← c.self.view_is) at c.requires.asks) (sym (c.if-not-is_going.ensures ∙ ap is_going c.how_stands.ensures)) c.in_ok-out.out
       (c.if-not-may_go.ensures.may (setup_of c.self.inside.setup) (world_of (setup_of c.self.inside.setup) c.self.inside.journal.entries) c.self.invariant.0.stands)
       (c.in_ok-out.ensures.ok (world_of (setup_of c.self.inside.setup) c.self.inside.journal.entries) c.self.invariant.0.stands) c.visit_with.new.entries c.in_ok-out.ensures.entry
-      c.ending_after-self-inside.result c.ending_after-self-inside.ensures (c.in_ok-out.ensures.noted c.self.invariant.0.noted),
+      c.ending_after-self-inside.result c.ending_after-self-inside.ensures (c.in_ok-out.ensures.noted c.self.invariant.0.noted) c.in_ok-out.ensures.set,
   c.self.invariant.1,
 )
 
