@@ -1,4 +1,5 @@
 pub mod Places
+pub mod HandingBack
 pub mod Members
 pub mod FirstSpace
 pub mod Lifts

@@ -267,3 +267,11 @@ there_is setup entries s e stop is task less =
     let all : length (world_of setup entries).log.courses ≡ tasks_of setup = (bounded setup (order_of entries)).courses in
     let same : length (world_of setup entries).log.courses ≡ length (courses_in s.tasks.items) = ap length is.stands.courses in
     omega (arith, less, long, all, same)
+
+pub few_parts : (setup : Setup) (entries : List Entry) (s : State) (e : End) (stop : Option End) → IsRun setup entries s e stop → length s.tasks.items < 2 ^ 32
+few_parts setup entries s e stop is =
+    let long : length (courses_in s.tasks.items) ≡ length s.tasks.items = length_map course_in s.tasks.items in
+    let all : length (world_of setup entries).log.courses ≡ tasks_of setup = (bounded setup (order_of entries)).courses in
+    let same : length (world_of setup entries).log.courses ≡ length (courses_in s.tasks.items) = ap length is.stands.courses in
+    let few : tasks_of setup ≤ 64 = is.valid.few_tasks in
+    omega (arith, long, all, same, few)

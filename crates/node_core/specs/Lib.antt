@@ -10,3 +10,4 @@ pub mod HeldCoding
 pub mod IsRun
 pub mod Keeps
 pub mod Visits
+pub mod HandedBack

@@ -11,6 +11,7 @@ mod memory_calls;
 mod node;
 mod own_calls;
 mod parts;
+mod records;
 mod starts;
 mod steps;
 

@@ -1,5 +1,5 @@
 //! The node: the state and the journal of a run.
-ghost use Rattle.std.specs.Prelude.{◌≡◌, ◌<◌, ◌≤◌, ◌-◌, ◌^◌, ◌∷◌, ◌++◌, ◌&&◌, [], length, slice_get, is_some, unwrap_or, not, true, None, IfOk, OnOk, OnErr, IfSome};
+ghost use Rattle.std.specs.Prelude.{◌≡◌, ◌≢◌, ◌<◌, ◌≤◌, ◌-◌, ◌^◌, ◌∷◌, ◌++◌, ◌&&◌, [], length, slice_get, is_some, unwrap_or, not, true, None, IfOk, OnOk, OnErr, IfSome};
 ghost use Rattle.mpc_values.specs.CallTable.{call_number};
 ghost use Rattle.mpc_values.specs.declared.limits.TheConstants.{MAX_TASKS};
 ghost use Rattle.c_tree.specs.Asking.{Asks};
@@ -11,15 +11,20 @@ ghost use Rattle.run_model.specs.Steps.{answers_of, entry_of};
 ghost use Rattle.run_model.specs.Go.{go};
 ghost use Rattle.run_model.specs.Choice.{can_go};
 ghost use Rattle.run_model.specs.Run.{LegalRun};
+ghost use Rattle.run_model.specs.Ranks.{rank_ends};
+ghost use Rattle.run_model.specs.Records.{MapsAgree};
+ghost use Rattle.mpc_base.specs.declared.journals.End.TheVariants as end;
 ghost use Rattle.node_core.specs.Built.{IsBuilt};
-ghost use Rattle.node_core.specs.Stands.{Stands, IsSpaceOf};
+ghost use Rattle.node_core.specs.Stands.{Stands, SpaceStands, IsSpaceOf};
 ghost use Rattle.node_core.specs.Steps.{SameState, Stepped, AllFit};
 ghost use Rattle.node_core.specs.Held.{world_in, end_of, is_going, IsStop, stop_after};
 ghost use Rattle.node_core.specs.Visits.{made_by, reply_in, reply_to};
 
 use crate::parts::State;
-use mpc_base::{Answer, Call, End, Entries, Entry, Journal, Memory, Out};
-use run_model::Setup;
+use crate::records::{Mapped, map_of, rank_ends};
+use mem_space::Space;
+use mpc_base::{Answer, Call, End, Entries, Entry, Journal, Memory, Out, RankEnds};
+use run_model::{RunRecord, Setup};
 use std::alloc::Global;
 use std::marker::Model;
 use std::mem;
@@ -251,5 +256,50 @@ impl Node {
         ensures legal { LegalRun (setup_of self.now.setup) result.now }
     {
         &self.journal
+    }
+
+    /// The heap, which stands for the places, live objects and marks of the run's world.
+    pub fn space(&self) -> &Space
+        ensures stands { SpaceStands (world_in self.now).core result.now }
+        ensures set { IsSpaceOf (setup_of self.now.setup) result.now }
+    {
+        &self.state.shared.space
+    }
+
+    /// What is handed back: the setup, the journal, the end, and the end of each rank. Map and words are given exactly
+    /// where the run finished.
+    pub fn into_record(self) -> Result<RunRecord, Memory>
+        ensures setup { IfOk result (λ kept. kept.setup ≡ self.setup) }
+        ensures entries { IfOk result (λ kept. kept.journal.entries ≡ self.entries) }
+        ensures legal { IfOk result (λ kept. LegalRun (setup_of self.setup) kept.journal) }
+        ensures ended { IfOk result (λ kept. kept.end ≡ end_of self) }
+        ensures ranks { IfOk result (λ kept. rank_ends (world_in self) (end_of self) ≡ kept.ranks) }
+        ensures finished { IfOk result (λ kept. end_of self ≡ end.Finished → MapsAgree kept.map kept.words (world_in self).core.memory) }
+        ensures others { IfOk result (λ kept. end_of self ≢ end.Finished → (kept.map ≡ None) × (kept.words ≡ None)) }
+    {
+        let Node {
+            alloc,
+            setup,
+            state,
+            journal,
+            end,
+            stop,
+        } = self;
+        let end = how_stands(stop, end);
+        let State {
+            shared,
+            tasks,
+            last: _,
+        } = state;
+        let Mapped { map, words } = map_of(alloc, shared.space, end)?;
+        let ranks = rank_ends(alloc, tasks, end)?;
+        Ok(RunRecord {
+            setup,
+            journal,
+            end,
+            ranks: RankEnds::of(ranks),
+            map,
+            words,
+        })
     }
 }
