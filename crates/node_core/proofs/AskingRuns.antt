@@ -27,11 +27,8 @@ use Rattle.run_model.proofs.Steps.{step_is, after_is}
 use Rattle.run_model.proofs.Bounds.{going}
 use Rattle.run_model.proofs.Answers.{Answered, answered_start, answered_step, none_yet, out_is, courses_are, own_answers, other_answers, list_of}
 use Rattle.run_model.proofs.NeverMisfits.{never_misfits}
+use Rattle.node_core.specs.Over.{is_over}
 use Rattle.node_core.proofs.Enders.{is_last, EndsBy, over_ends}
-
--- the task has finished, or something has ended the run
-abbrev pub is_over : World → ℕ → Bool
-is_over w task = is_some w.log.last || has_finished (course_of w.log task)
 
 -- a task that asks nothing more is over
 record OverOnly (setup : Setup) (r : Ran) : Type 0 where
@@ -101,7 +98,7 @@ over_start setup valid = record {
     empty [] answer h = cc
     empty (a ∷ before) answer h = cc
 
-module _ {setup : Setup} {w : World} {task : ℕ} {entry : Entry} {after : World} (s : IsStep setup w task entry after) (there : setup.program.main < length setup.program.functions) where
+module _ {setup : Setup} {w : World} {task : ℕ} {entry : Entry} {after : World} (s : IsStep setup w task entry after) where
   own_course : course_of after.log task ≡ course_after (course_of w.log task) s.call s.line (out_of (tried setup w task s.call))
   own_course =
       ap (λ cs. course_at (slice_get cs task)) (sym (courses_are s))
@@ -110,6 +107,25 @@ module _ {setup : Setup} {w : World} {task : ℕ} {entry : Entry} {after : World
   own_last : after.log.last ≡ last_after w.log.last task s.call s.line (out_of (tried setup w task s.call))
   own_last = ap (λ (x : World). x.log.last) (sym (after_is s))
 
+  logged : (o : Out) → out_of (tried setup w task s.call) ≡ o → is_over after task ≡ (is_some (last_after w.log.last task s.call s.line o) || is_some (exit_after (course_of w.log task).exit s.call o))
+  logged o e =
+      ap (λ l. is_some l || has_finished (course_of after.log task)) own_last
+      ∙ ap (λ (c : Course). is_some (last_after w.log.last task s.call s.line (out_of (tried setup w task s.call))) || has_finished c) own_course
+      ∙ ap (λ x. is_some (last_after w.log.last task s.call s.line x) || is_some (exit_after (course_of w.log task).exit s.call x)) e
+
+  -- a task whose last call was answered is over
+  pub over_by : (answer : Answer) → entry.out ≡ out.Did answer → is_last s.call ≡ true → is_over after task ≡ true
+  over_by answer did last = logged (out.Did answer) (out_is s ∙ did) ∙ ends_log s.call (course_of w.log task).exit w.log.last task s.line answer last
+
+  -- another task that is over stays so
+  pub over_stays : (other : ℕ) → other ≢ task → is_over w other ≡ true → is_over after other ≡ true
+  over_stays other apart was =
+      let finished : has_finished (course_of w.log other) ≡ true = ap (λ l. is_some l || has_finished (course_of w.log other)) (sym (going s)) ∙ was in
+      let same : course_of after.log other ≡ course_of w.log other =
+      ap (λ cs. course_at (slice_get cs other)) (sym (courses_are s)) ∙ ap course_at (get_set_other w.log.courses task other _ apart) in
+      or_right (is_some after.log.last) (has_finished (course_of after.log other)) (ap has_finished same ∙ finished)
+
+module _ {setup : Setup} {w : World} {task : ℕ} {entry : Entry} {after : World} (s : IsStep setup w task entry after) (there : setup.program.main < length setup.program.functions) where
   -- after an answer to a call that was asked, nothing is asked only where the call was a last one
   asked_last : (answer : Answer) → next_of setup.program (answers_of w task ++ answer ∷ []) ≡ Over → is_last s.call ≡ true
   asked_last answer h =
@@ -128,25 +144,14 @@ module _ {setup : Setup} {w : World} {task : ℕ} {entry : Entry} {after : World
       asks_still : answers_of w task ≡ answers_of w task ++ [] → next_of setup.program (answers_of w task ++ []) ≡ Over → ⊥
       asks_still nil h' = let both : Asks s.call s.line ≡ Over = sym s.asked ∙ ap (next_of setup.program) nil ∙ h' in cc
 
-      logged : (o : Out) → out_of (tried setup w task s.call) ≡ o → is_over after task ≡ (is_some (last_after w.log.last task s.call s.line o) || is_some (exit_after (course_of w.log task).exit s.call o))
-      logged o e =
-          ap (λ l. is_some l || has_finished (course_of after.log task)) own_last
-          ∙ ap (λ (c : Course). is_some (last_after w.log.last task s.call s.line (out_of (tried setup w task s.call))) || has_finished c) own_course
-          ∙ ap (λ x. is_some (last_after w.log.last task s.call s.line x) || is_some (exit_after (course_of w.log task).exit s.call x)) e
-
       by : (o : Out) → out_of (tried setup w task s.call) ≡ o → is_over after task ≡ true
       by (out.Did answer) e =
-          logged (out.Did answer) e ∙ ends_log s.call (course_of w.log task).exit w.log.last task s.line answer (asked_last answer (told (out.Did answer) e))
+          logged s (out.Did answer) e ∙ ends_log s.call (course_of w.log task).exit w.log.last task s.line answer (asked_last answer (told (out.Did answer) e))
       by (out.Broke fault) e = absurd (asks_still (append_nil (answers_of w task)) (told (out.Broke fault) e))
       by out.Waits e = absurd (asks_still (append_nil (answers_of w task)) (told out.Waits e))
 
   over_other : (other : ℕ) → other ≢ task → (next_of setup.program (answers_of w other) ≡ Over → is_over w other ≡ true) → next_of setup.program (answers_of after other) ≡ Over → is_over after other ≡ true
-  over_other other apart before h =
-      let was : is_over w other ≡ true = before (ap (next_of setup.program) (sym (other_answers s other apart)) ∙ h) in
-      let finished : has_finished (course_of w.log other) ≡ true = ap (λ l. is_some l || has_finished (course_of w.log other)) (sym (going s)) ∙ was in
-      let same : course_of after.log other ≡ course_of w.log other =
-      ap (λ cs. course_at (slice_get cs other)) (sym (courses_are s)) ∙ ap course_at (get_set_other w.log.courses task other _ apart) in
-      or_right (is_some after.log.last) (has_finished (course_of after.log other)) (ap has_finished same ∙ finished)
+  over_other other apart before h = over_stays s other apart (before (ap (next_of setup.program) (sym (other_answers s other apart)) ∙ h))
 
 over_step : (setup : Setup) → Valid setup → (r : Ran) (task : ℕ) (entry : Entry) (after : World) → OverOnly setup r → IsStep setup r.world task entry after → OverOnly setup (record { entries = r.entries ++ entry ∷ []; world = after })
 over_step setup valid r task entry after h s = record {
@@ -164,7 +169,7 @@ over_only setup valid order =
     run_keeps setup (OverOnly setup) (over_start setup valid)
     (λ r task entry after h went. over_step setup valid r task entry after h (step_is setup r.world task entry after went)) order
 
-going_free : (setup : Setup) (w : World) (task : ℕ) (c : Option Course) → slice_get w.log.courses task ≡ c → may_go setup w task c ≡ true → is_over w task ≡ false
+pub going_free : (setup : Setup) (w : World) (task : ℕ) (c : Option Course) → slice_get w.log.courses task ≡ c → may_go setup w task c ≡ true → is_over w task ≡ false
 going_free setup w task None at h = absurd (cc h)
 going_free setup w task (Some course) at h = by (is_some w.log.last) (has_finished course) (is_blocked setup w task course) h (ap (λ c. has_finished (course_at c)) at)
   where

@@ -11,3 +11,4 @@ pub mod IsRun
 pub mod Keeps
 pub mod Visits
 pub mod HandedBack
+pub mod Over

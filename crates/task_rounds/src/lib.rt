@@ -1,0 +1,8 @@
+//! Tasks and a node that run a program together, one step after the other, until no task can go.
+#![tactic(auto)]
+
+mod rounds;
+mod seats;
+
+
+pub use seats::Seat;

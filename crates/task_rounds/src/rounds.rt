@@ -1,0 +1,1 @@
+//! Rounds of tasks and a node.
