@@ -1,5 +1,5 @@
 -- What a picker is to those who call it, and what it picks.
-use Rattle.std.specs.Prelude.{ℕ, ◌+◌, ◌<◌, Bool, List, drop, filter, Option, None, Some, ◌≡◌}
+use Rattle.std.specs.Prelude.{ℕ, ◌+◌, ◌<◌, Bool, true, List, drop, filter, Option, None, Some, ◌≡◌}
 use Rattle.std.specs.List.{range_with_len}
 use Rattle.rand_pcg.specs.Lcg.{Lcg}
 use Rattle.rand_pcg.specs.Pcg.{pcg32}
@@ -13,6 +13,11 @@ use Rattle.task_picks.specs.declared.picker.Picker.TheVariants.{InTurn, ByWords,
 -- a task of a node makes an entry
 abbrev pub goes : Held → ℕ → Bool
 goes held task = can_go (setup_of held.setup) (world_in held) task
+
+-- the task is there, and makes an entry
+pub record CanGo (held : Held) (task : ℕ) : Type 0 where
+  pub there : task < tasks_of (setup_of held.setup)
+  pub goes : goes held task ≡ true
 
 -- the picking by what the code keeps of it
 abbrev pub picker_of : Picker → choice.Picker
@@ -40,4 +45,4 @@ Listing held tasks old new None =
     (next : ℕ) → listed (setup_of held.setup) (world_in held) (drop old tasks) next ≡ in_turn (setup_of held.setup) (world_in held) next
 Listing held tasks old new (Some task) =
     ((next : ℕ) → listed (setup_of held.setup) (world_in held) (drop old tasks) next
-    ≡ Some (record { task = task; after = choice.FromList (drop new tasks) (task + 1) })) × (task < tasks_of (setup_of held.setup))
+    ≡ Some (record { task = task; after = choice.FromList (drop new tasks) (task + 1) })) × CanGo held task

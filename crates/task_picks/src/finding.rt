@@ -1,9 +1,9 @@
 //! Which tasks of a node can go.
-ghost use Rattle.std.specs.Prelude.{◌≡◌, ◌<◌, ◌-◌, None, IfSome, length, filter, find, slice_get};
+ghost use Rattle.std.specs.Prelude.{◌≡◌, ◌-◌, None, IfSome, length, filter, find, slice_get};
 ghost use Rattle.std.specs.List.{range_with_len};
 ghost use Rattle.run_model.specs.Setup.{setup_of, tasks_of};
 ghost use Rattle.run_model.specs.Choice.{from_task};
-ghost use Rattle.task_picks.specs.Picked.{goes};
+ghost use Rattle.task_picks.specs.Picked.{goes, CanGo};
 
 use node_core::Node;
 
@@ -11,7 +11,7 @@ use node_core::Node;
 fn first_in(node: &Node, from: u32, to: u32) -> Option<u32>
     requires running { node.now.stop ≡ None }
     ensures first { result ≡ find (goes node.now) (range_with_len from (to - from)) }
-    ensures there { IfSome result (λ task. task < tasks_of (setup_of node.now.setup)) }
+    ensures can { IfSome result (CanGo node.now) }
 {
     for task in from..to {
         if node.can_go(task) {
@@ -25,7 +25,7 @@ fn first_in(node: &Node, from: u32, to: u32) -> Option<u32>
 pub(crate) fn in_turn(node: &Node, next: u32) -> Option<u32>
     requires running { node.now.stop ≡ None }
     ensures first { result ≡ find (goes node.now) (from_task (setup_of node.now.setup) next) }
-    ensures there { IfSome result (λ task. task < tasks_of (setup_of node.now.setup)) }
+    ensures can { IfSome result (CanGo node.now) }
 {
     match first_in(node, next, node.tasks()) {
         Some(task) => Some(task),
@@ -51,7 +51,8 @@ pub(crate) fn count(node: &Node) -> u32
 /// The task of a place, counted from 0, among those that can go.
 pub(crate) fn nth(node: &Node, place: u32) -> Option<u32>
     requires running { node.now.stop ≡ None }
-    ensures { result ≡ slice_get (filter (goes node.now) (range_with_len 0 (tasks_of (setup_of node.now.setup)))) place }
+    ensures place { result ≡ slice_get (filter (goes node.now) (range_with_len 0 (tasks_of (setup_of node.now.setup)))) place }
+    ensures can { IfSome result (CanGo node.now) }
 {
     let tasks = node.tasks();
     let mut left = place;

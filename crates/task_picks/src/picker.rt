@@ -1,7 +1,7 @@
 //! The picking of a serial run.
-ghost use Rattle.std.specs.Prelude.{◌≡◌, None, IfOk};
+ghost use Rattle.std.specs.Prelude.{◌≡◌, None, IfOk, IfSome};
 ghost use Rattle.run_model.specs.Choice.{first_picker};
-ghost use Rattle.task_picks.specs.Picked.{picker_of, Picked, Drawn, Listing};
+ghost use Rattle.task_picks.specs.Picked.{picker_of, Picked, CanGo, Drawn, Listing};
 
 use crate::finding::{count, in_turn, nth};
 use mpc_base::{Memory, Picks};
@@ -47,7 +47,8 @@ impl Picker {
     /// The task that steps next, or none where no task can go. The node was not stopped.
     pub fn next(&mut self, node: &Node) -> Option<u32>
         requires running { node.now.stop ≡ None }
-        ensures { Picked node.now (picker_of self.old) (picker_of self.new) result }
+        ensures picked { Picked node.now (picker_of self.old) (picker_of self.new) result }
+        ensures can { IfSome result (CanGo node.now) }
     {
         let tasks = node.tasks();
         match self {
@@ -76,7 +77,8 @@ impl Picker {
 /// One of the tasks that can go, by the next word.
 fn by_word(node: &Node, generator: &mut Pcg32) -> Option<u32>
     requires running { node.now.stop ≡ None }
-    ensures { Drawn node.now generator.old generator.new result }
+    ensures drawn { Drawn node.now generator.old generator.new result }
+    ensures can { IfSome result (CanGo node.now) }
 {
     let going = count(node);
     if going == 0 {
