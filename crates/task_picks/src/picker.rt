@@ -15,9 +15,13 @@ use std::alloc::Global;
 #[derive(Drop)]
 pub enum Picker {
     /// The next task that can go, in rising number from this one on and cyclically.
-    InTurn { next: u32 },
+    InTurn {
+        next: u32,
+    },
     /// The task among those that can go which the next word of a generator names.
-    ByWords { generator: Pcg32 },
+    ByWords {
+        generator: Pcg32,
+    },
     /// The listed tasks from a place of the list on, and then in turn.
     FromList {
         list: Vec<u32>,

@@ -42,7 +42,7 @@ use Rattle.node_core.proofs.Enders.{is_last}
 use Rattle.node_core.proofs.AskingRuns.{going_free, over_by, over_stays}
 use Rattle.task_picks.specs.Picked.{goes}
 use Rattle.task_rounds.specs.declared.seats.Seat.{Seat}
-use Rattle.task_rounds.specs.Rounds.{Plays, Keeps, AskedAs, Wants}
+use Rattle.task_rounds.specs.Rounds.{Plays, Keeps, AskedAs, Wants, Asking, AskingWant}
 
 -- the call that ends a task ends it in the run
 ends_last : (c : Call) → ends_task c ≡ true → is_last c ≡ true
@@ -172,57 +172,63 @@ module _ (held : Held) (number : ℕ) (plays : Plays held) (can : goes held numb
         by_over seat.task.over (is_over (world_in held) number) keeps.over
         (going_free (setup_of held.setup) (world_in held) number (Some step.course) step.there step.may)
 
-    module _ (task : Tasked) (asked : Call) (line : ℕ) (wants : Wants seat.task task (Ask asked line)) where
-      had : HasHad task (answers_of (world_in held) number)
-      had = wants.had (answers_of (world_in held) number) (keeps.had goes_on)
+    pub asking_want : (task : Tasked) (want : Want) → Wants seat.task task want → AskingWant held number task want
+    asking_want task (Ask asked line) wants = record {
+      behaves = subst (λ c. Behaves c (setup_of held.setup).program) (sym wants.code) keeps.behaves;
+      had = wants.had (answers_of (world_in held) number) (keeps.had goes_on);
+      asked = wants.asked;
+      goes = wants.goes;
+      asks = wants.asks;
+    }
 
-      behaves : Behaves task.code (setup_of held.setup).program
-      behaves = subst (λ c. Behaves c (setup_of held.setup).program) (sym wants.code) keeps.behaves
+    pub asking_call : (task : Tasked) (want : Want) (asked : Call) (line : ℕ) → want ≡ Ask asked line → Wants seat.task task want → Asking held number task asked line
+    asking_call task want asked line is wants = subst (AskingWant held number task) is (asking_want task want wants)
 
-      -- the code of the task demands the one call that the program asks
-      pub asked_next : next_of (setup_of held.setup).program (answers_of (world_in held) number) ≡ asking.Asks asked line
-      asked_next =
-          demands_once task.code had.entry (answers_of (world_in held) number) (next_of (setup_of held.setup).program (answers_of (world_in held) number)) (asking.Asks asked line)
-          had.main (behaves (answers_of (world_in held) number)) (asks_demanded task.code (answers_of (world_in held) number) task.mach asked line had wants.asks)
+  module _ (task : Tasked) (asked : Call) (line : ℕ) (asking' : Asking held number task asked line) where
+    -- the code of the task demands the one call that the program asks
+    pub asked_next : next_of (setup_of held.setup).program (answers_of (world_in held) number) ≡ asking.Asks asked line
+    asked_next =
+        demands_once task.code asking'.had.entry (answers_of (world_in held) number) (next_of (setup_of held.setup).program (answers_of (world_in held) number)) (asking.Asks asked line)
+        asking'.had.main (asking'.behaves (answers_of (world_in held) number)) (asks_demanded task.code (answers_of (world_in held) number) task.mach asked line asking'.had asking'.asks)
 
-      pub is_built : IsBuilt asked
-      is_built = plays.built (answers_of (world_in held) number) asked line asked_next
+    pub is_built : IsBuilt asked
+    is_built = plays.built (answers_of (world_in held) number) asked line asked_next
 
-      same_call : step.call ≡ asked
-      same_call = let both : asking.Asks step.call step.line ≡ asking.Asks asked line = sym step.asked ∙ asked_next in cc
+    same_call : step.call ≡ asked
+    same_call = let both : asking.Asks step.call step.line ≡ asking.Asks asked line = sym step.asked ∙ asked_next in cc
 
-      module _ (reply : Reply) (replied : reply ≡ reply_in (is_going (end_of held)) (go (setup_of held.setup) (world_in held) number)) where
-        -- the task waits for this answer
-        pub awaits : ((setup' : Setup) (world : World) (who : ℕ) (entry : Entry) (after : World) (s : IsStep setup' world who entry after) (answer : Answer) → IsKnown setup' s.call → entry.out ≡ out.Did answer → fits s.call answer ≡ true)
-            → (answer : Answer) → reply ≡ Did answer → Awaits task answer
-        awaits law answer is = record {
-          asked = wants.asked;
-          call = asked;
-          line = line;
-          asks = wants.asks;
-          fitting = subst (λ c. fits c answer ≡ true) same_call
-              (law (setup_of held.setup) (world_in held) number went.entry went.after step answer (plays.valid.known (answers_of (world_in held) number) step.call step.line step.asked) (did_is reply replied answer is));
+    module _ (reply : Reply) (replied : reply ≡ reply_in (is_going (end_of held)) (go (setup_of held.setup) (world_in held) number)) where
+      -- the task waits for this answer
+      pub awaits : ((setup' : Setup) (world : World) (who : ℕ) (entry : Entry) (after : World) (s : IsStep setup' world who entry after) (answer : Answer) → IsKnown setup' s.call → entry.out ≡ out.Did answer → fits s.call answer ≡ true)
+          → (answer : Answer) → reply ≡ Did answer → Awaits task answer
+      awaits law answer is = record {
+        asked = asking'.asked;
+        call = asked;
+        line = line;
+        asks = asking'.asks;
+        fitting = subst (λ c. fits c answer ≡ true) same_call
+            (law (setup_of held.setup) (world_in held) number went.entry went.after step answer (plays.valid.known (answers_of (world_in held) number) step.call step.line step.asked) (did_is reply replied answer is));
+      }
+
+      module _ (node : Held) (setups : node.setup ≡ held.setup) (entries : node.entries ≡ made_by held.stop held.entries (go (setup_of held.setup) (world_in held) number)) (stops : node.stop ≡ held.stop) where
+        pub keeps_did : (answer : Answer) → reply ≡ Did answer → (answered' : Tasked) → answered'.code ≡ task.code → answered'.over ≡ ends_task asked → answered'.asked ≡ false
+            → ((given : List Answer) → HasHad task given → answered'.over ≡ false → HasHad answered' (given ++ answer ∷ [])) → Keeps node number (record { task = answered'; want = None })
+        keeps_did answer is answered' code over off has = record {
+          behaves = subst (λ g. Behaves answered'.code (setup_of g).program) (sym setups) (subst (λ c. Behaves c (setup_of held.setup).program) (sym code) asking'.behaves);
+          had = λ goes'.
+              subst (HasHad answered') (sym (own_are node setups entries stops ∙ ap (λ o. answers_of (world_in held) number ++ list_of (answer_told o)) (did_is reply replied answer is)))
+              (has (answers_of (world_in held) number) asking'.had goes');
+          over = λ ended.
+              ap (λ x. is_over x number) (world_is node setups entries stops)
+              ∙ over_by step answer (did_is reply replied answer is) (ends_last step.call (ap ends_task same_call ∙ sym over ∙ ended));
+          asks = off;
         }
 
-        module _ (node : Held) (setups : node.setup ≡ held.setup) (entries : node.entries ≡ made_by held.stop held.entries (go (setup_of held.setup) (world_in held) number)) (stops : node.stop ≡ held.stop) where
-          pub keeps_did : (answer : Answer) → reply ≡ Did answer → (answered' : Tasked) → answered'.code ≡ task.code → answered'.over ≡ ends_task asked → answered'.asked ≡ false
-              → ((given : List Answer) → HasHad task given → answered'.over ≡ false → HasHad answered' (given ++ answer ∷ [])) → Keeps node number (record { task = answered'; want = None })
-          keeps_did answer is answered' code over off has = record {
-            behaves = subst (λ g. Behaves answered'.code (setup_of g).program) (sym setups) (subst (λ c. Behaves c (setup_of held.setup).program) (sym code) behaves);
-            had = λ goes'.
-                subst (HasHad answered') (sym (own_are node setups entries stops ∙ ap (λ o. answers_of (world_in held) number ++ list_of (answer_told o)) (did_is reply replied answer is)))
-                (has (answers_of (world_in held) number) had goes');
-            over = λ ended.
-                ap (λ x. is_over x number) (world_is node setups entries stops)
-                ∙ over_by step answer (did_is reply replied answer is) (ends_last step.call (ap ends_task same_call ∙ sym over ∙ ended));
-            asks = off;
-          }
-
-          pub keeps_waits : ((answer : Answer) → reply ≢ Did answer) → Keeps node number (record { task = task; want = Some (Ask asked line) })
-          keeps_waits other = record {
-            behaves = subst (λ g. Behaves task.code (setup_of g).program) (sym setups) behaves;
-            had = λ goes'.
-                subst (HasHad task) (sym (own_are node setups entries stops ∙ ap (λ o. answers_of (world_in held) number ++ list_of o) (none_is reply replied other) ∙ sym (append_nil (answers_of (world_in held) number)))) had;
-            over = λ ended. absurd (let twice : true ≡ false = sym ended ∙ wants.goes in cc twice);
-            asks = (wants.asked, wants.asks);
-          }
+        pub keeps_waits : ((answer : Answer) → reply ≢ Did answer) → Keeps node number (record { task = task; want = Some (Ask asked line) })
+        keeps_waits other = record {
+          behaves = subst (λ g. Behaves task.code (setup_of g).program) (sym setups) asking'.behaves;
+          had = λ goes'.
+              subst (HasHad task) (sym (own_are node setups entries stops ∙ ap (λ o. answers_of (world_in held) number ++ list_of o) (none_is reply replied other) ∙ sym (append_nil (answers_of (world_in held) number)))) asking'.had;
+          over = λ ended. absurd (let twice : true ≡ false = sym ended ∙ asking'.goes in cc twice);
+          asks = (asking'.asked, asking'.asks);
+        }

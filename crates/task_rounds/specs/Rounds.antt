@@ -6,9 +6,10 @@ use Rattle.c_tree.specs.Asking.{Asks}
 use Rattle.c_tree.specs.Next.{next_of}
 use Rattle.c_code.specs.FlatCode.{FlatCode}
 use Rattle.c_compile.specs.Correct.{Behaves}
-use Rattle.task_vm.specs.Tasks.{Tasked, HasHad}
+use Rattle.task_vm.specs.Tasks.{Tasked, HasHad, IsAsking}
 use Rattle.task_vm.specs.Wanting.{IsWanting}
 use Rattle.task_vm.specs.declared.states.Want.{Want}
+use Rattle.task_vm.specs.declared.states.Want.TheVariants.{Ask}
 use Rattle.run_model.specs.Setup.{Setup, setup_of}
 use Rattle.run_model.specs.Valid.{Valid}
 use Rattle.run_model.specs.Steps.{answers_of}
@@ -35,8 +36,8 @@ AskedAs None task = task.asked ≡ false
 AskedAs (Some want) task = (task.asked ≡ true) × IsWanting task want
 
 -- the task of the seat begins to run the code
-pub record IsNew (code : FlatCode) (seat : Seat) : Type 0 where
-  pub code : seat.task.code ≡ code
+pub record IsNew (run' : FlatCode) (seat : Seat) : Type 0 where
+  pub code : seat.task.code ≡ run'
   pub begun : HasHad seat.task []
   pub still : seat.task.over ≡ false
   pub asks : AskedAs seat.want seat.task
@@ -59,3 +60,15 @@ pub record Wants (old new : Tasked) (want : Want) : Type 0 where
   pub goes : new.over ≡ false
   pub asks : IsWanting new want
   pub had : (given : List Answer) → HasHad old given → HasHad new given
+
+-- The task asks this call at this line, after the answers that the run holds for it.
+pub record Asking (held : Held) (number : ℕ) (task : Tasked) (call : Call) (line : ℕ) : Type 0 where
+  pub behaves : Behaves task.code (setup_of held.setup).program
+  pub had : HasHad task (answers_of (world_in held) number)
+  pub asked : task.asked ≡ true
+  pub goes : task.over ≡ false
+  pub asks : IsAsking task call line
+
+-- the same of what the task wants
+abbrev pub AskingWant : Held → ℕ → Tasked → Want → Type 0
+AskingWant held number task (Ask call line) = Asking held number task call line

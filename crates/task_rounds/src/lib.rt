@@ -4,5 +4,5 @@
 mod rounds;
 mod seats;
 
-
+pub use rounds::run_to_end;
 pub use seats::Seat;

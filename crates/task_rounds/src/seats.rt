@@ -6,11 +6,11 @@ ghost use Rattle.run_model.specs.Go.{go};
 ghost use Rattle.node_core.specs.Held.{world_in};
 ghost use Rattle.node_core.specs.Visits.{made};
 ghost use Rattle.task_picks.specs.Picked.{goes};
-ghost use Rattle.task_rounds.specs.Rounds.{Plays, IsNew, Keeps, AskedAs, Wants};
+ghost use Rattle.task_rounds.specs.Rounds.{Plays, IsNew, Keeps, AskedAs, Wants, Asking};
 ghost use Rattle.task_rounds.specs.declared.seats.Seat.{Seat as Seats};
 
 use c_code::Code;
-use mpc_values::Memory;
+use mpc_values::{Call, Memory};
 use node_core::{Node, Reply};
 use run_model::tasks_never_misfit;
 use std::alloc::Global;
@@ -46,12 +46,29 @@ impl Seat {
         ensures keeps { OnOk result (Keeps node.new number self.new) }
         ensures others { OnOk result ((other : ℕ) (seat : Seats) → other ≢ number → Keeps node.old other seat → Keeps node.new other seat) }
     {
-        tasks_never_misfit();
         let want = self.wanted()?;
-        let Want::Ask { call, line } = &want;
-        match node.visit(number, call, *line)? {
+        match want {
+            Want::Ask { call, line } => self.visit(node, number, call, line),
+        }
+    }
+
+    /// The visit of the call that the task asks, and its answer.
+    fn visit(&mut self, node: &mut Node, number: u32, call: Call, line: u32) -> Result<(), Memory>
+        requires plays { Plays node.old }
+        requires asking { Asking node.old number self.old.task call line }
+        requires want { self.old.want ≡ None }
+        requires goes { goes node.old number ≡ true }
+        ensures plays { OnOk result (Plays node.new) }
+        ensures setup { OnOk result (node.new.setup ≡ node.old.setup) }
+        ensures entries { OnOk result (node.new.entries ≡ made node.old.entries (go (setup_of node.old.setup) (world_in node.old) number)) }
+        ensures keeps { OnOk result (Keeps node.new number self.new) }
+        ensures others { OnOk result ((other : ℕ) (seat : Seats) → other ≢ number → Keeps node.old other seat → Keeps node.new other seat) }
+    {
+        tasks_never_misfit();
+        match node.visit(number, &call, line)? {
             Reply::Did(answer) => self.task.give(answer),
-            Reply::NotYet | Reply::Stop => self.want = Some(want),
+            Reply::NotYet => self.want = Some(Want::Ask { call, line }),
+            Reply::Stop => self.want = Some(Want::Ask { call, line }),
         }
         Ok(())
     }
