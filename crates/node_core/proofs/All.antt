@@ -1,17 +1,15 @@
 -- From the part of one task to the parts of all.
-use Rattle.std.proofs.Common.{◌≡◌, ◌<◌, ℕ, List, length, slice_get, slice_set, Some, refl, sym, ap, subst, ◌∙◌, arith}
+use Rattle.std.proofs.Common.{◌≡◌, ◌<◌, ℕ, List, length, slice_get, slice_set, Some, refl, sym, ap, subst, arith}
 use Rattle.std.proofs.lemmas.Option.{slice_get_within}
 use Rattle.mpc_base.specs.declared.journals.Out.{Out}
 use Rattle.mpc_base.specs.declared.journals.Out.TheVariants.{Waits, Did, Broke}
 use Rattle.run_model.specs.World.{TaskState, Core}
 use Rattle.run_model.specs.Outcomes.{Outcome, Does, Fails, state_of, state_at}
 use Rattle.run_model.specs.Outcomes.{Waits as Stays}
-use Rattle.node_core.specs.declared.parts.OwnPart.{OwnPart}
 use Rattle.node_core.specs.declared.parts.TaskPart.{TaskPart}
 use Rattle.node_core.specs.declared.parts.Shared.{Shared}
 use Rattle.mem_space.specs.Spaces.{Space}
 use Rattle.mem_space.specs.Places.{IsAsBefore}
-use Rattle.node_core.specs.Built.{SameOwn}
 use Rattle.node_core.specs.Each.{Each}
 use Rattle.node_core.specs.Stands.{OwnStands, PartStands, Serves, Leaves, Follows, CoreStands}
 use Rattle.node_core.specs.declared.parts.State.{State}

@@ -1,5 +1,5 @@
 -- In a run of a valid setup a task that may go asks a call, so that a step of it makes an entry.
-use Rattle.std.proofs.Common.{◌≡◌, ◌≢◌, ◌<◌, ◌⊎◌, ◌||◌, ◌==◌, inl, inr, not, ℕ, ℤ, zero, suc, Bool, true, false, if◌then◌else◌, List, [], ◌∷◌, ◌++◌, length, slice_get, slice_set, Option, Some, None, refl, sym, ap, subst, ◌∙◌}
+use Rattle.std.proofs.Common.{◌≡◌, ◌≢◌, ◌<◌, ◌⊎◌, ◌||◌, ◌==◌, inl, inr, not, ℕ, ℤ, Bool, true, false, if◌then◌else◌, List, [], ◌∷◌, ◌++◌, length, slice_get, Option, Some, None, refl, sym, ap, subst, ◌∙◌}
 use Rattle.std.specs.Option.{is_some}
 use Rattle.std.proofs.lemmas.Option.{slice_get_within}
 use Rattle.std.proofs.lemmas.Bool.Decides.{eqb_tells}
@@ -16,7 +16,7 @@ use Rattle.run_model.specs.declared.progress.Last.{Last}
 use Rattle.run_model.specs.Setup.{Setup}
 use Rattle.run_model.specs.Valid.{Valid}
 use Rattle.run_model.specs.World.{World}
-use Rattle.run_model.specs.Steps.{Step, Stays, Makes, out_of, tried, course_at, course_of, course_after, exit_after, last_after, answers_of, visited}
+use Rattle.run_model.specs.Steps.{Stays, out_of, tried, course_at, course_of, course_after, exit_after, last_after, answers_of, visited}
 use Rattle.run_model.specs.Go.{makes, go, go_with, go_next, may_go, has_finished, is_blocked}
 use Rattle.run_model.specs.Run.{Ran, run, at_start}
 use Rattle.run_model.specs.Choice.{can_go}
@@ -28,7 +28,7 @@ use Rattle.run_model.proofs.Bounds.{going}
 use Rattle.run_model.proofs.Answers.{Answered, answered_start, answered_step, none_yet, out_is, courses_are, own_answers, other_answers, list_of}
 use Rattle.run_model.proofs.NeverMisfits.{never_misfits}
 use Rattle.node_core.specs.Over.{is_over}
-use Rattle.node_core.proofs.Enders.{is_last, EndsBy, over_ends}
+use Rattle.node_core.proofs.Enders.{is_last, over_ends}
 
 -- a task that asks nothing more is over
 record OverOnly (setup : Setup) (r : Ran) : Type 0 where

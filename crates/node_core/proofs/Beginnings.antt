@@ -1,7 +1,6 @@
 -- The state at the start stands for the start.
-use Rattle.std.proofs.Common.{◌≡◌, ◌<◌, ℕ, zero, suc, List, [], ◌∷◌, map, length, replicate, slice_get, All, Some, None, refl, sym, ap, subst, ◌∙◌, arith}
+use Rattle.std.proofs.Common.{◌≡◌, ℕ, zero, suc, List, [], ◌∷◌, length, replicate, slice_get, All, Some, None, refl, sym, ap, subst, ◌∙◌}
 use Rattle.std.proofs.lemmas.Option.{slice_get_within, get_or_from_slice_get}
-use Rattle.mpi_request.specs.declared.requests.Request.{Request}
 use Rattle.mpi_comm.specs.Communicators.{comm_world}
 use Rattle.run_model.specs.declared.progress.Course.{Course}
 use Rattle.run_model.specs.Setup.{Setup, tasks_of}
@@ -18,8 +17,7 @@ use Rattle.run_model.specs.Start.{start, first_core, first_task, first_course}
 use Rattle.node_core.specs.declared.parts.TaskPart.{TaskPart}
 use Rattle.node_core.specs.declared.parts.State.{State}
 use Rattle.mpi_comm.specs.Seen.{seen_all}
-use Rattle.node_core.specs.Each.{Each}
-use Rattle.node_core.specs.Stands.{PartStands, NoRequests, SpaceStands, IsSpaceOf, Stands, course_in, courses_in}
+use Rattle.node_core.specs.Stands.{SpaceStands, IsSpaceOf, Stands, courses_in}
 use Rattle.node_core.specs.Starts.{IsFirst}
 use Rattle.node_core.specs.Steps.{NotedFits, AllFit}
 

@@ -1,5 +1,5 @@
 -- The lifts of rank, size and abort.
-use Rattle.std.proofs.Common.{◌≡◌, ℕ, ℤ, List, Option, Some, None, Result, refl, sym, ap, ◌∙◌, if◌then◌else◌}
+use Rattle.std.proofs.Common.{◌≡◌, ℕ, ℤ, Option, Some, None, Result, refl, sym, ap, ◌∙◌, if◌then◌else◌}
 use Rattle.std.specs.Option.{option_map}
 use Rattle.mpc_values.specs.declared.values.Word.{Word}
 use Rattle.mpc_values.specs.declared.answers.Answer.{Answer}
@@ -17,7 +17,6 @@ use Rattle.run_model.specs.TaskCalls.{rank, size, abort}
 use Rattle.run_model.specs.Act.{act}
 use Rattle.node_core.specs.declared.parts.OwnPart.{OwnPart}
 use Rattle.node_core.specs.declared.parts.Shared.{Shared}
-use Rattle.mpi_comm.specs.Seen.{seen_all}
 use Rattle.node_core.specs.CommsSeen.{view_seen}
 use Rattle.node_core.specs.Seen.{answered, rank_answer, size_answer, code_answer}
 use Rattle.node_core.specs.Built.{out_of}

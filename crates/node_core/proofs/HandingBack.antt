@@ -1,25 +1,21 @@
 -- What is handed back of a run tells of its world.
-use Rattle.std.proofs.Common.{◌≡◌, ◌≢◌, ◌<◌, ◌≤◌, ◌+◌, ℕ, zero, suc, List, [], ◌∷◌, ◌++◌, length, map, take, drop, slice_get, Option, Some, None, IsSomeAnd, refl, sym, ap, subst, ◌∙◌, arith}
+use Rattle.std.proofs.Common.{◌≡◌, ◌≤◌, ◌+◌, ℕ, zero, suc, List, [], ◌∷◌, ◌++◌, length, map, take, drop, slice_get, Some, IsSomeAnd, refl, sym, ap, subst, ◌∙◌, arith}
 use Rattle.std.specs.List.{zip}
 use Rattle.mpc_base.specs.declared.journals.End.{End}
-use Rattle.mpc_base.specs.declared.journals.RankEnd.{RankEnd}
 use Rattle.mpc_base.specs.declared.journals.MapRow.{MapRow}
 use Rattle.mpc_values.specs.declared.values.Word.{Word}
-use Rattle.mpc_values.specs.declared.values.Obj.{Obj}
-use Rattle.mpc_values.specs.declared.owners.Owner.{Owner}
-use Rattle.memory_model.specs.Memory.{Memory, Object, object_of}
+use Rattle.memory_model.specs.Memory.{Memory, object_of}
 use Rattle.block_table.specs.declared.rows.Row.{Row}
 use Rattle.object_heap.specs.Layout.{Layout}
-use Rattle.object_heap.specs.Objects.{Shows, object_in}
+use Rattle.object_heap.specs.Objects.{Shows}
 use Rattle.object_heap.specs.Maps as heap
-use Rattle.run_model.specs.declared.progress.Course.{Course}
 use Rattle.run_model.specs.World.{TaskState, World}
 use Rattle.run_model.specs.Ranks.{rank_state, rank_ends_from, rank_ends}
 use Rattle.run_model.specs.Maps as map
 use Rattle.node_core.specs.declared.parts.TaskPart.{TaskPart}
 use Rattle.node_core.specs.declared.parts.State.{State}
 use Rattle.node_core.specs.Each.{Each}
-use Rattle.node_core.specs.Stands.{PartStands, Stands, course_in, courses_in}
+use Rattle.node_core.specs.Stands.{PartStands, Stands, courses_in}
 use Rattle.node_core.specs.HandedBack.{end_of, ends_from, map_row_of}
 
 pub ends_more : (task : ℕ) (e : End) (parts : List TaskPart) (part : TaskPart) → ends_from task e (parts ++ part ∷ []) ≡ ends_from task e parts ++ end_of (task + length parts) e part ∷ []

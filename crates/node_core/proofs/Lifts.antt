@@ -1,5 +1,5 @@
 -- What the node does to the parts of one call is what the call comes to in every core that they stand for.
-use Rattle.std.proofs.Common.{◌≡◌, ◌<◌, ◌⊎◌, inl, inr, ℕ, List, length, slice_get, slice_set, Some, Result, Ok, Err, OnErr, refl, sym, ap, subst, ◌∙◌}
+use Rattle.std.proofs.Common.{◌≡◌, ◌<◌, inl, inr, ℕ, length, slice_get, slice_set, Some, Result, Ok, Err, OnErr, sym, ap, subst, ◌∙◌}
 use Rattle.mpc_values.specs.declared.answers.Answer.{Answer}
 use Rattle.mpc_values.specs.declared.faults.Fault.{Fault}
 use Rattle.run_model.specs.World.{TaskState, Core}
@@ -9,7 +9,7 @@ use Rattle.node_core.specs.declared.parts.Shared.{Shared}
 use Rattle.mem_space.specs.Spaces.{made_in}
 use Rattle.node_core.specs.Seen.{partly_seen}
 use Rattle.node_core.specs.Built.{out_of}
-use Rattle.node_core.specs.Stands.{OwnStands, MatchingStands, SharedStands, Serves, Leaves, Follows}
+use Rattle.node_core.specs.Stands.{OwnStands, SharedStands, Serves, Leaves, Follows}
 use Rattle.node_core.proofs.Places.{get_set_other, length_set, get_there, state_of-with, set_state_same, same_or_other, set_at}
 
 -- the outcome of a call that changes nothing

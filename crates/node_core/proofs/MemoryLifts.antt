@@ -1,15 +1,13 @@
 -- The lifts of the calls on memory.
-use Rattle.std.proofs.Common.{◌≡◌, ◌≢◌, ◌<◌, ◌⊎◌, inl, inr, ℕ, ℤ, length, slice_get, slice_set, Option, Some, None, Result, Ok, Err, refl, sym, ap, subst, ◌∙◌}
+use Rattle.std.proofs.Common.{◌≡◌, ◌<◌, inl, inr, ℕ, ℤ, slice_set, Result, Ok, Err, refl, sym, ap, subst, ◌∙◌}
 use Rattle.std.proofs.Math.Path.{fun_ext}
 use Rattle.mpc_values.specs.declared.values.Obj.{Obj}
 use Rattle.mpc_values.specs.declared.values.Obj.TheVariants.{Glob, Dyn}
 use Rattle.mpc_values.specs.declared.values.Word.{Word}
-use Rattle.mpc_values.specs.declared.owners.Owner.{Owner}
 use Rattle.mpc_values.specs.declared.answers.Answer.{Answer}
 use Rattle.mpc_values.specs.declared.faults.Fault.{Fault}
 use Rattle.mpc_values.specs.declared.calls.Call.TheVariants as call
 use Rattle.memory_model.specs.Memory.{Memory}
-use Rattle.memory_model.specs.Marks.{Marks}
 use Rattle.memory_model.specs.Access.{Objects, Access, Answers, Breaks}
 use Rattle.memory_model.specs.Access as access
 use Rattle.block_table.specs.Rows.{is_send, is_receive}
@@ -20,17 +18,17 @@ use Rattle.object_heap.specs.Objects.{Shows}
 use Rattle.object_heap.specs.Marks.{marks_in, KeepsMarks}
 use Rattle.mem_space.specs.Spaces.{Space, owner_for, objects_in, made_in}
 use Rattle.mem_space.specs.Places.{AccessKeeps}
-use Rattle.mem_space.specs.Accesses.{Answered, Comes}
+use Rattle.mem_space.specs.Accesses.{Comes}
 use Rattle.run_model.specs.Setup.{Setup}
 use Rattle.run_model.specs.Owners.{sharing, owner_of}
 use Rattle.run_model.specs.World.{TaskState, Core}
-use Rattle.run_model.specs.Outcomes.{Outcome, Does, Fails, state_of, with_state}
+use Rattle.run_model.specs.Outcomes.{Outcome, state_of, with_state}
 use Rattle.run_model.specs.MemoryCalls.{objects_of, accessed, load, store, new, drop, malloc, free}
 use Rattle.run_model.specs.Act.{act}
 use Rattle.node_core.specs.declared.parts.OwnPart.{OwnPart}
 use Rattle.node_core.specs.declared.parts.Shared.{Shared}
 use Rattle.node_core.specs.Built.{out_of}
-use Rattle.node_core.specs.Stands.{OwnStands, SpaceStands, IsSpaceOf, SharedStands, Serves, Leaves, Follows}
+use Rattle.node_core.specs.Stands.{OwnStands, SpaceStands, IsSpaceOf, Serves, Leaves, Follows}
 use Rattle.node_core.proofs.Places.{get_set_other, length_set, state_of-with, same_or_other, set_at}
 use Rattle.node_core.proofs.Lifts.{state_there}
 

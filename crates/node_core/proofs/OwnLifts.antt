@@ -1,5 +1,5 @@
 -- The lifts of print, finish, init and finalize.
-use Rattle.std.proofs.Common.{◌≡◌, ℕ, ℤ, Bool, true, false, List, [], ◌∷◌, slice_get, Option, Some, None, Result, OnErr, refl, sym, ap, subst, ◌∙◌, if◌then◌else◌}
+use Rattle.std.proofs.Common.{◌≡◌, ℕ, ℤ, Bool, true, false, List, [], slice_get, Option, Some, None, Result, OnErr, refl, sym, ap, subst, ◌∙◌, if◌then◌else◌}
 use Rattle.mpc_values.specs.declared.values.Word.TheVariants.{Int}
 use Rattle.mpc_values.specs.declared.answers.Answer.{Answer}
 use Rattle.mpc_values.specs.declared.answers.Answer.TheVariants.{Done, Gives}
@@ -11,7 +11,7 @@ use Rattle.run_model.specs.declared.progress.Phase.{Phase}
 use Rattle.run_model.specs.declared.progress.Phase.TheVariants.{Before, Inside, After}
 use Rattle.run_model.specs.Setup.{Setup}
 use Rattle.run_model.specs.World.{Core}
-use Rattle.run_model.specs.Outcomes.{Does, Fails, on_part, with_state, state_of, requests_at, requests_of, is_inside}
+use Rattle.run_model.specs.Outcomes.{Does, Fails, on_part, state_of, requests_at, requests_of, is_inside}
 use Rattle.run_model.specs.TaskCalls.{printed, print, finish, begun, init, has_active, with_phase, finalize}
 use Rattle.run_model.specs.Act.{act}
 use Rattle.node_core.specs.declared.parts.OwnPart.{OwnPart}

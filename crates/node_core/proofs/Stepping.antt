@@ -1,5 +1,5 @@
 -- What a call comes to, with its log, is a step of the world.
-use Rattle.std.proofs.Common.{◌≡◌, ◌<◌, ◌≤◌, inl, inr, ℕ, nat_le, if◌then◌else◌, List, length, slice_get, slice_set, Option, Some, None, refl, sym, ap, subst, ◌∙◌, arith}
+use Rattle.std.proofs.Common.{◌≡◌, inl, inr, ℕ, List, slice_get, slice_set, Some, sym, ap, subst, ◌∙◌}
 use Rattle.mpc_values.specs.declared.calls.Call.{Call}
 use Rattle.mpc_base.specs.declared.journals.Out.{Out}
 use Rattle.mpc_base.specs.declared.journals.Out.TheVariants.{Waits, Did, Broke}
@@ -11,7 +11,7 @@ use Rattle.run_model.specs.Steps.{Makes, visited, made_by, tried, entry_of, cour
 use Rattle.node_core.specs.declared.parts.TaskPart.{TaskPart}
 use Rattle.node_core.specs.declared.parts.State.{State}
 use Rattle.node_core.specs.Built.{IsBuilt, OnWaits}
-use Rattle.node_core.specs.Stands.{CoreStands, Stands, course_in, courses_in}
+use Rattle.node_core.specs.Stands.{Stands, course_in, courses_in}
 use Rattle.node_core.specs.Steps.{Tried, tried_at, Stepped, NotedFits, AllFit}
 use Rattle.node_core.proofs.Places.{get_map, map_set, get_set_other, set_at, same_or_other}
 use Rattle.node_core.proofs.All.{FollowsAll, serves_of, follows_all}

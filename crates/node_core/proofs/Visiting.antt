@@ -1,8 +1,7 @@
 -- A visit keeps the run.
-use Rattle.std.proofs.Common.{◌≡◌, ◌≢◌, ◌<◌, ◌≤◌, ◌+◌, ◌-◌, ◌^◌, ◌||◌, ◌&&◌, ◌⊎◌, inl, inr, not, ℕ, zero, suc, Bool, true, false, List, [], ◌∷◌, ◌++◌, if◌then◌else◌, length, slice_get, slice_index, All, Option, Some, None, IfSome, refl, sym, ap, subst, ◌∙◌, arith}
+use Rattle.std.proofs.Common.{◌≡◌, ◌<◌, ◌≤◌, ◌-◌, ◌^◌, ◌||◌, ◌&&◌, inl, inr, not, ℕ, suc, Bool, true, false, List, [], ◌∷◌, ◌++◌, if◌then◌else◌, length, slice_get, slice_index, All, Option, Some, None, IfSome, refl, sym, ap, subst, ◌∙◌, arith}
 use Rattle.std.specs.Option.{is_some, unwrap_or}
 use Rattle.std.proofs.lemmas.Option.{slice_get_within, get_or_from_slice_get}
-use Rattle.mpc_values.specs.declared.limits.TheConstants.{MAX_CALLS}
 use Rattle.mpc_values.specs.declared.calls.Call.{Call}
 use Rattle.mpc_base.specs.declared.journals.Out.{Out}
 use Rattle.mpc_base.specs.declared.journals.Entry.{Entry}
@@ -12,14 +11,12 @@ use Rattle.c_tree.specs.Asking.{Asks}
 use Rattle.c_tree.specs.Next.{next_of}
 use Rattle.run_model.specs.declared.progress.Course.{Course}
 use Rattle.run_model.specs.Setup.{Setup, tasks_of}
-use Rattle.run_model.specs.Valid.{Valid}
 use Rattle.run_model.specs.World.{TaskState, Core, World}
 use Rattle.run_model.specs.Steps.{Step, Stays, Makes, visited, answers_of, entry_of}
-use Rattle.run_model.specs.Go.{go, go_with, go_next, may_go, has_finished, is_blocked}
+use Rattle.run_model.specs.Go.{go, go_with, may_go, has_finished, is_blocked}
 use Rattle.run_model.specs.Choice.{can_go}
 use Rattle.run_model.specs.Ending.{ending}
-use Rattle.run_model.specs.Run.{run, order_of, world_of}
-use Rattle.run_model.specs.Stepping.{Bounded}
+use Rattle.run_model.specs.Run.{order_of, world_of}
 use Rattle.run_model.proofs.Runs.{world_of-push, entries-push}
 use Rattle.run_model.proofs.Ended.{ended_runs_stay}
 use Rattle.run_model.proofs.Bounds.{bounded}
@@ -34,7 +31,7 @@ use Rattle.mem_space.specs.Spaces.{Space}
 use Rattle.mem_space.specs.Places.{IsAsBefore}
 use Rattle.node_core.specs.Built.{SameShared}
 use Rattle.node_core.specs.Each.{Each}
-use Rattle.node_core.specs.Stands.{PartStands, MatchingStands, SpaceStands, IsSpaceOf, SharedStands, Stands, course_in, courses_in}
+use Rattle.node_core.specs.Stands.{PartStands, SpaceStands, IsSpaceOf, SharedStands, Stands, course_in, courses_in}
 use Rattle.node_core.specs.Steps.{SamePart, SameState, Stepped, NotedFits, AllFit}
 use Rattle.node_core.specs.Held.{is_going, IsStop}
 use Rattle.node_core.specs.declared.node.Reply.TheVariants.{NotYet, Stop}

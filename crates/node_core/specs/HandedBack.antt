@@ -1,5 +1,5 @@
 -- What is handed back of a run, by the parts of its state.
-use Rattle.std.specs.Prelude.{◌≡◌, ◌≢◌, ℕ, ◌+◌, List, [], ◌∷◌, None}
+use Rattle.std.specs.Prelude.{ℕ, ◌+◌, List, [], ◌∷◌}
 use Rattle.mpc_base.specs.declared.journals.End.{End}
 use Rattle.mpc_base.specs.declared.journals.RankEnd.{RankEnd}
 use Rattle.mpc_base.specs.declared.journals.MapRow.{MapRow}

@@ -1,5 +1,5 @@
 -- What a node is to those who call it.
-use Rattle.std.specs.Prelude.{◌≡◌, ◌≢◌, ◌⊎◌, Bool, true, false, not, List, Option, Some, None, is_some, unwrap_or, if◌then◌else◌}
+use Rattle.std.specs.Prelude.{◌≡◌, ◌⊎◌, Bool, true, false, List, Option, Some, unwrap_or, if◌then◌else◌}
 use Rattle.mpc_base.specs.declared.journals.Entry.{Entry}
 use Rattle.mpc_base.specs.declared.journals.End.{End}
 use Rattle.mpc_base.specs.declared.journals.End.TheVariants as end

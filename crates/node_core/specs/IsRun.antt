@@ -1,9 +1,9 @@
 -- When a node's state and entries are those of a run.
-use Rattle.std.specs.Prelude.{◌≡◌, ◌≤◌, ℕ, List, length, Option, Some, None}
+use Rattle.std.specs.Prelude.{◌≡◌, List, Option, Some, None}
 use Rattle.mpc_base.specs.declared.journals.Entry.{Entry}
 use Rattle.mpc_base.specs.declared.journals.End.{End}
 use Rattle.mpc_base.specs.declared.journals.End.TheVariants.{Going}
-use Rattle.run_model.specs.Setup.{Setup, tasks_of}
+use Rattle.run_model.specs.Setup.{Setup}
 use Rattle.run_model.specs.Valid.{Valid}
 use Rattle.run_model.specs.Ending.{ending}
 use Rattle.run_model.specs.Run.{run, order_of, world_of}

@@ -4,12 +4,11 @@ use Rattle.mpc_values.specs.declared.calls.Call.{Call}
 use Rattle.mpc_values.specs.declared.faults.Fault.TheVariants.{Calls}
 use Rattle.mpc_base.specs.declared.journals.Out.{Out}
 use Rattle.run_model.specs.declared.progress.Ask.{Ask}
-use Rattle.run_model.specs.declared.progress.Course.{Course}
 use Rattle.run_model.specs.Setup.{Setup}
 use Rattle.run_model.specs.World.{Core, World}
 use Rattle.run_model.specs.Outcomes.{Outcome, Fails}
 use Rattle.run_model.specs.Act.{act}
-use Rattle.run_model.specs.Steps.{Makes, visited, entry_of, course_after}
+use Rattle.run_model.specs.Steps.{Makes, visited, entry_of}
 use Rattle.node_core.specs.declared.parts.OwnPart.{OwnPart}
 use Rattle.node_core.specs.declared.parts.TaskPart.{TaskPart}
 use Rattle.node_core.specs.declared.parts.Shared.{Shared}

@@ -1,17 +1,16 @@
 -- How a run goes on by the picks.
-use Rattle.std.proofs.Common.{◌≡◌, ◌≢◌, ◌<◌, ◌≤◌, ◌+◌, ◌-◌, ◌*◌, ◌⊎◌, inl, inr, ℕ, zero, suc, List, [], ◌∷◌, ◌++◌, length, slice_get, slice_set, Option, Some, None, refl, sym, ap, subst, ◌∙◌, arith}
+use Rattle.std.proofs.Common.{◌≡◌, ◌≢◌, ◌<◌, ◌≤◌, ◌+◌, ◌-◌, ◌*◌, inl, inr, ℕ, zero, suc, List, [], slice_set, Some, None, refl, sym, ap, subst, ◌∙◌, arith}
 use Rattle.mpc_base.specs.declared.picks.Picks.{Picks}
 use Rattle.mpc_base.specs.declared.journals.Entry.{Entry}
-use Rattle.run_model.specs.Setup.{Setup, setup_of, tasks_of}
-use Rattle.run_model.specs.World.{World}
+use Rattle.run_model.specs.Setup.{Setup, tasks_of}
 use Rattle.run_model.specs.Start.{start}
 use Rattle.run_model.specs.Steps.{Step, Stays, Makes}
 use Rattle.run_model.specs.Go.{go, world_after}
 use Rattle.run_model.specs.Choice.{Picker, first_picker, picked, with_pick, choices, choice}
-use Rattle.run_model.specs.Run.{Ran, ran_step, run_from, at_start, run, order_of, world_of}
+use Rattle.run_model.specs.Run.{Ran, ran_step, run_from, at_start, run, world_of}
 use Rattle.run_model.proofs.Runs.{run_from-none, world_of-push}
 use Rattle.run_model.proofs.Steps.{step_is, task_is}
-use Rattle.node_core.specs.Held.{Held, world_in}
+use Rattle.node_core.specs.Held.{Held}
 use Rattle.node_core.specs.Visits.{made}
 use Rattle.node_core.proofs.Places.{get_set_other, same_or_other, set_at}
 use Rattle.task_rounds.specs.declared.seats.Seat.{Seat}

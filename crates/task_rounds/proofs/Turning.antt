@@ -1,5 +1,5 @@
 -- What a turn of a task leaves.
-use Rattle.std.proofs.Common.{◌≡◌, ◌≢◌, ◌||◌, ℕ, Bool, true, false, if◌then◌else◌, List, [], ◌∷◌, ◌++◌, length, slice_get, Option, Some, None, refl, sym, ap, subst, ◌∙◌}
+use Rattle.std.proofs.Common.{◌≡◌, ◌≢◌, ℕ, Bool, true, false, if◌then◌else◌, List, [], ◌∷◌, ◌++◌, Some, None, refl, sym, ap, subst, ◌∙◌}
 use Rattle.std.specs.Option.{unwrap_or}
 use Rattle.mpc_values.specs.declared.calls.Call.{Call}
 use Rattle.mpc_values.specs.declared.calls.Call.TheVariants as call
@@ -12,11 +12,9 @@ use Rattle.mpc_base.specs.declared.journals.Entry.{Entry}
 use Rattle.c_tree.specs.Asking.{Next, fits}
 use Rattle.c_tree.specs.Asking as asking
 use Rattle.c_tree.specs.Next.{next_of}
-use Rattle.c_code.specs.FlatCode.{FlatCode}
 use Rattle.c_code.proofs.Following.{demands_once, asks_demanded}
 use Rattle.c_compile.specs.Correct.{Behaves}
-use Rattle.task_vm.specs.Tasks.{Tasked, HasHad, IsAsking, ends_task, Awaits}
-use Rattle.task_vm.specs.Wanting.{IsWanting}
+use Rattle.task_vm.specs.Tasks.{Tasked, HasHad, ends_task, Awaits}
 use Rattle.task_vm.specs.declared.states.Want.{Want}
 use Rattle.task_vm.specs.declared.states.Want.TheVariants.{Ask}
 use Rattle.run_model.specs.Setup.{Setup, setup_of}
@@ -24,9 +22,8 @@ use Rattle.run_model.specs.World.{World}
 use Rattle.run_model.specs.Fitting.{IsKnown}
 use Rattle.run_model.specs.Steps.{Step, Stays, Makes, answers_of}
 use Rattle.run_model.specs.Go.{go, makes}
-use Rattle.run_model.specs.Choice.{can_go}
 use Rattle.run_model.specs.Ending.{ending}
-use Rattle.run_model.specs.Run.{run, order_of, world_of}
+use Rattle.run_model.specs.Run.{order_of}
 use Rattle.run_model.specs.Stepping.{IsStep, answer_told}
 use Rattle.run_model.proofs.Steps.{step_is, task_is}
 use Rattle.run_model.proofs.Runs.{world_of-push, entries-push, append_nil}
@@ -35,14 +32,14 @@ use Rattle.run_model.proofs.Ended.{ended_runs_stay}
 use Rattle.node_core.specs.Built.{IsBuilt}
 use Rattle.node_core.specs.Held.{Held, world_in, end_of, is_going}
 use Rattle.node_core.specs.Over.{is_over}
-use Rattle.node_core.specs.Visits.{made, made_by, reply_to, reply_of, reply_in}
+use Rattle.node_core.specs.Visits.{made, made_by, reply_to, reply_in}
 use Rattle.node_core.specs.declared.node.Reply.{Reply}
-use Rattle.node_core.specs.declared.node.Reply.TheVariants.{Did, NotYet, Stop}
+use Rattle.node_core.specs.declared.node.Reply.TheVariants.{Did, Stop}
 use Rattle.node_core.proofs.Enders.{is_last}
 use Rattle.node_core.proofs.AskingRuns.{going_free, over_by, over_stays}
 use Rattle.task_picks.specs.Picked.{goes}
 use Rattle.task_rounds.specs.declared.seats.Seat.{Seat}
-use Rattle.task_rounds.specs.Rounds.{Plays, Keeps, AskedAs, Wants, Asking, AskingWant}
+use Rattle.task_rounds.specs.Rounds.{Plays, Keeps, Wants, Asking, AskingWant}
 
 -- the call that ends a task ends it in the run
 ends_last : (c : Call) → ends_task c ≡ true → is_last c ≡ true

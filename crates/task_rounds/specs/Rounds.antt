@@ -1,5 +1,5 @@
 -- What holds while tasks and a node run a program together.
-use Rattle.std.specs.Prelude.{◌≡◌, ℕ, Bool, true, false, List, [], slice_get, Option, None, Some}
+use Rattle.std.specs.Prelude.{◌≡◌, ℕ, true, false, List, [], slice_get, Option, None, Some}
 use Rattle.mpc_values.specs.declared.calls.Call.{Call}
 use Rattle.mpc_values.specs.declared.answers.Answer.{Answer}
 use Rattle.c_tree.specs.Asking.{Asks}

@@ -1,4 +1,3 @@
-use Rattle.std.proofs.Common.{sym}
 use Rattle.run_model.specs.Setup.{setup_of}
 use Rattle.node_core.proofs.FirstSpace.{first_stands}
 use Rattle.node_core.proofs.starts.first_space.Goals as goal

@@ -1,4 +1,4 @@
-use Rattle.std.proofs.Common.{◌≡◌, ◌<◌, ◌-◌, ◌+◌, ◌≤◌, suc, length, filter, find, slice_get, true, false, refl, sym, ap, ◌∙◌, arith}
+use Rattle.std.proofs.Common.{◌<◌, ◌-◌, ◌+◌, filter, slice_get, true, false, sym, ap, ◌∙◌, arith}
 use Rattle.std.specs.List.{range_with_len}
 use Rattle.task_picks.specs.Picked.{goes}
 use Rattle.task_picks.proofs.Found.{goes_is, filter_here, filter_later, get_later}

@@ -1,4 +1,4 @@
-use Rattle.std.proofs.Common.{◌≡◌, ◌∙◌, refl, ap, sym, subst, List}
+use Rattle.std.proofs.Common.{◌∙◌, refl, ap, sym, subst, List}
 use Rattle.mpc_base.specs.declared.journals.Entry.{Entry}
 use Rattle.run_model.specs.Setup.{setup_of}
 use Rattle.run_model.specs.Run.{world_of}

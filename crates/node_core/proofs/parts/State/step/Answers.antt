@@ -1,7 +1,6 @@
 use Rattle.std.proofs.Common.{◌≡◌, slice_get, Some, refl}
 use Rattle.std.proofs.lemmas.Option.{slice_get_read}
 use Rattle.run_model.specs.Setup.{setup_of}
-use Rattle.node_core.proofs.All.{parts_same}
 use Rattle.node_core.proofs.Stepping.{stepped, all_fit_after}
 use Rattle.node_core.proofs.parts.State.step.Goals as goal
 

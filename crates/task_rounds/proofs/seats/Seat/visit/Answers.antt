@@ -1,5 +1,4 @@
-use Rattle.std.proofs.Common.{◌≡◌, Option, None, sym, subst, ◌∙◌}
-use Rattle.mpc_values.specs.declared.answers.Answer.{Answer}
+use Rattle.std.proofs.Common.{◌≡◌, Option, sym, subst, ◌∙◌}
 use Rattle.task_vm.specs.declared.states.Want.{Want}
 use Rattle.node_core.specs.declared.node.Reply.TheVariants.{Did, NotYet, Stop}
 use Rattle.task_rounds.specs.Rounds.{Keeps}
