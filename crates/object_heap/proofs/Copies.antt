@@ -1,5 +1,5 @@
 -- Lists of copies before and behind a change.
-use Rattle.std.proofs.Common.{◌≡◌, ◌≢◌, ℕ, zero, suc, ◌+◌, ◌-◌, ◌<◌, ◌≤◌, Bool, true, false, List, [], ◌∷◌, ◌++◌, length, get_or, Option, Some, None, is_some, IsSomeAnd, refl, sym, ap, subst, ◌∙◌, inl, inr, ◌⊎◌, arith}
+use Rattle.std.proofs.Common.{◌≡◌, ℕ, ◌+◌, Bool, true, false, List, [], ◌∷◌, ◌++◌, length, get_or, None, is_some, refl, sym, ap, ◌∙◌, arith}
 use Rattle.std.specs.List.{All}
 use Rattle.std.proofs.lemmas.Bool.{false≢true}
 use Rattle.std.proofs.lemmas.List.{length-append}
@@ -8,7 +8,7 @@ use Rattle.mpi_copy.specs.declared.Held.{Held}
 use Rattle.block_table.specs.Rows.{IsLive}
 use Rattle.word_region.specs.Places.{cell, is_in}
 use Rattle.object_heap.specs.Layout.{Layout, is_in_row}
-use Rattle.object_heap.specs.Copies.{IsCopy, AreApart, AreAllApart, AreCopies, copy_words, KeepsWords, KeepsCopies, GainsCopy, LosesCopy, IsOneCopy}
+use Rattle.object_heap.specs.Copies.{IsCopy, AreApart, AreAllApart, AreCopies, copy_words, KeepsCopies, GainsCopy, LosesCopy, IsOneCopy}
 use Rattle.object_heap.proofs.Words.{in_range, range_low, range_high, same_words}
 
 -- the place is no live row's

@@ -1,6 +1,6 @@
 -- Heaps before and behind a change: which objects, marks and spans stay.
-use Rattle.std.proofs.Common.{◌≡◌, ◌≢◌, ℕ, zero, suc, ◌+◌, ◌-◌, ◌<◌, ◌≤◌, Bool, true, false, cond, List, length, slice_get, Option, Some, None, is_some, IsSomeAnd, refl, sym, ap, subst, ◌∙◌, inl, inr, ◌⊎◌, arith}
-use Rattle.std.proofs.lemmas.Bool.{cases_lt, cases_eq, false≢true}
+use Rattle.std.proofs.Common.{◌≡◌, ◌≢◌, ℕ, ◌+◌, ◌<◌, ◌≤◌, true, cond, length, slice_get, Option, Some, None, is_some, IsSomeAnd, refl, sym, ap, subst, ◌∙◌, inl, inr, arith}
+use Rattle.std.proofs.lemmas.Bool.{cases_eq}
 use Rattle.mpc_values.specs.declared.values.Word.{Word}
 use Rattle.mpc_values.specs.declared.values.Obj.{Obj}
 use Rattle.mpc_values.specs.declared.owners.Owner.{Owner}
@@ -10,17 +10,17 @@ use Rattle.block_table.specs.declared.rows.Row.{Row}
 use Rattle.block_table.specs.declared.rows.Span.{Span}
 use Rattle.block_table.specs.declared.rows.Mark.{Mark}
 use Rattle.block_table.specs.declared.rows.Mark.TheVariants.{Free}
-use Rattle.block_table.specs.Rows.{Live, Rows, live, row_in, IsLive, IsNamed, IsNoName, IsNamedOnce, Changes, Marks, mark_at, mark_in}
+use Rattle.block_table.specs.Rows.{Rows, live, row_in, IsNamed, IsNoName, IsNamedOnce, Marks, mark_at, mark_in}
 use Rattle.block_table.specs.Index.{IsSame}
 use Rattle.block_table.proofs.Names.{same_cases}
-use Rattle.word_region.specs.Places.{cell, is_in, IsHeld}
+use Rattle.word_region.specs.Places.{cell, is_in}
 use Rattle.object_heap.specs.Layout.{Layout, row_of, is_in_row, IsSound, HasPlaces, IsSpan}
-use Rattle.object_heap.specs.Objects.{word_or, word_at, words_from, object_by, object_at, object_where, object_in, key_named, Shows, part, span_words}
+use Rattle.object_heap.specs.Objects.{word_or, words_from, object_by, object_at, object_where, object_in, key_named, Shows, part, span_words}
 use Rattle.object_heap.specs.Marks.{mark_of, mark_where, KeepsMarks, Remarks}
-use Rattle.object_heap.specs.Changes.{Puts, Edits, KeepsObjects, KeepsSpans, KeepsOtherSpans, base_in, base_of}
-use Rattle.object_heap.proofs.Words.{in_range, above_range, same_words, part_words, length_words, slice_words}
+use Rattle.object_heap.specs.Changes.{Puts, Edits, KeepsObjects, base_in, base_of}
+use Rattle.object_heap.proofs.Words.{in_range, same_words, part_words, length_words, slice_words}
 use Rattle.object_heap.proofs.Names.{first_key, no_key, name_cases, named_by_row, same_key_named, key_owner, key_obj}
-use Rattle.object_heap.proofs.Rows.{live_row, row_live, live_at, one_row, no_row}
+use Rattle.object_heap.proofs.Rows.{live_row, row_live, one_row}
 
 -- a name's object and marks are those of its key
 pub object_named : (h : Layout) (key : ℕ) (owner : Owner) (obj : Obj) → IsNamedOnce h.rows → IsNamed h.rows key owner obj → object_in h owner obj ≡ object_at h key

@@ -1,23 +1,20 @@
 -- The rows and the words of a heap as a map.
-use Rattle.std.proofs.Common.{◌≡◌, ◌≢◌, ℕ, zero, suc, ◌+◌, ◌-◌, ◌<◌, ◌≤◌, Bool, true, false, List, length, get_or, take, drop, slice_get, Option, Some, None, is_some, IsSomeAnd, refl, sym, ap, subst, ◌∙◌, inl, inr, arith}
-use Rattle.std.proofs.lemmas.Bool.{cases_lt, false≢true}
+use Rattle.std.proofs.Common.{◌≡◌, ◌≢◌, ℕ, ◌+◌, ◌<◌, true, List, length, get_or, take, drop, Some, None, is_some, IsSomeAnd, refl, sym, ap, subst, ◌∙◌, inl, inr, arith}
+use Rattle.std.proofs.lemmas.Bool.{false≢true}
 use Rattle.std.proofs.lemmas.List.{get_or-take, get_or-drop, length-take-le, length-drop}
 use Rattle.std.proofs.lemmas.Option.{slice_get-get_or}
 use Rattle.mpc_values.specs.declared.values.Word.{Word}
-use Rattle.mpc_values.specs.declared.values.Word.TheVariants.{Undef}
-use Rattle.mpc_values.specs.declared.values.Obj.{Obj}
-use Rattle.mpc_values.specs.declared.owners.Owner.{Owner}
 use Rattle.memory_model.specs.Memory.{Object}
 use Rattle.block_table.specs.declared.rows.Row.{Row}
-use Rattle.block_table.specs.Rows.{Rows, live, row_in, IsNamed, rows_of}
-use Rattle.word_region.specs.Places.{Places, cell, is_in, ShowsHeld}
-use Rattle.object_heap.specs.Layout.{Layout, row_of, is_in_row, IsSound}
-use Rattle.object_heap.specs.Objects.{word_or, word_at, words_from, object_where, object_in}
-use Rattle.object_heap.specs.Maps.{IsRowOf, IsIn, AreRowsApart, MapAgrees}
+use Rattle.block_table.specs.Rows.{live, IsNamed, rows_of}
+use Rattle.word_region.specs.Places.{cell, ShowsHeld}
+use Rattle.object_heap.specs.Layout.{Layout, row_of, IsSound}
+use Rattle.object_heap.specs.Objects.{word_or, word_at, words_from}
+use Rattle.object_heap.specs.Maps.{MapAgrees}
 use Rattle.object_heap.proofs.Words.{in_range, length_words, words_are}
 use Rattle.object_heap.proofs.Names.{name_cases}
 use Rattle.object_heap.proofs.Rows.{row_live, row_listed, listed_row, listed_rows}
-use Rattle.object_heap.proofs.Heaps.{named_row, named_object, object_named, object_of_row, no_object}
+use Rattle.object_heap.proofs.Heaps.{named_row, object_named, object_of_row, no_object}
 
 module _ (h : Layout) (ranges : ℕ) (words : List Word) (sound : IsSound h) (shows : ShowsHeld (record { cells = h.cells; ranges = ranges }) words) where
   -- a row's words in the list

@@ -1,28 +1,24 @@
 -- What an object that comes or goes leaves of a heap.
-use Rattle.std.proofs.Common.{◌≡◌, ◌≢◌, ℕ, zero, suc, ◌+◌, ◌-◌, ◌<◌, ◌≤◌, max, Bool, true, false, cond, List, length, get_or, replicate, Option, Some, None, is_some, IsSomeAnd, refl, sym, ap, subst, ◌∙◌, inl, inr, ◌⊎◌, arith}
+use Rattle.std.proofs.Common.{◌≡◌, ◌≢◌, ℕ, ◌+◌, ◌<◌, ◌≤◌, max, true, false, length, replicate, Option, Some, None, is_some, refl, sym, ap, subst, ◌∙◌, inl, inr, arith}
 use Rattle.std.proofs.lemmas.Bool.{cases_lt, cases_eq, false≢true}
 use Rattle.std.proofs.lemmas.List.{get_or_past, get_or-replicate, length-replicate}
-use Rattle.mpc_values.specs.declared.values.Word.{Word}
 use Rattle.mpc_values.specs.declared.values.Word.TheVariants.{Undef}
 use Rattle.mpc_values.specs.declared.values.Obj.{Obj}
 use Rattle.mpc_values.specs.declared.owners.Owner.{Owner}
 use Rattle.memory_model.specs.declared.kinds.Kind.{Kind}
 use Rattle.block_table.specs.declared.rows.Row.{Row}
-use Rattle.block_table.specs.declared.rows.Mark.{Mark}
 use Rattle.block_table.specs.declared.rows.Mark.TheVariants.{Free}
-use Rattle.block_table.specs.Rows.{Live, Rows, live, row_in, IsLive, IsNamed, IsNoName, IsNamedOnce, Changes, mark_at, mark_in, is_free}
-use Rattle.block_table.specs.Index.{IsSame}
+use Rattle.block_table.specs.Rows.{Live, Rows, live, row_in, IsNamed, IsNoName, IsNamedOnce, Changes, mark_at, mark_in, is_free}
 use Rattle.word_region.specs.Places.{Places, cell, is_in, IsHeld, IsFree, Takes, Releases}
 use Rattle.object_heap.specs.declared.heap.Heap.TheInside.{Inside}
-use Rattle.object_heap.specs.Layout.{Layout, row_of, is_in_row, IsSound}
-use Rattle.object_heap.specs.Objects.{words_from, object_in}
-use Rattle.object_heap.specs.Kept.{seen_of, IsKept, range_of, range_in, ranges_of}
+use Rattle.object_heap.specs.Layout.{row_of, is_in_row}
+use Rattle.object_heap.specs.Kept.{seen_of, IsKept, range_of, range_in}
 use Rattle.object_heap.specs.Marks.{KeepsMarks}
 use Rattle.object_heap.specs.Changes.{Puts, KeepsObjects}
 use Rattle.object_heap.specs.Copies.{KeepsCopies}
 use Rattle.object_heap.proofs.Words.{in_range, range_low, range_high, unset_words}
 use Rattle.object_heap.proofs.Names.{named_by_row}
-use Rattle.object_heap.proofs.Rows.{live_row, row_live, live_at, one_row, no_row, free_is, changed_ranges, range_among, range_of_row, one_range}
+use Rattle.object_heap.proofs.Rows.{live_row, row_live, one_row, no_row, free_is, changed_ranges, range_among, range_of_row, one_range}
 use Rattle.object_heap.proofs.Heaps.{object_named, object_of_row, no_object, keeps_objects, once_changed, puts, one_name, keeps_marks}
 use Rattle.object_heap.proofs.Copies.{IsNoRow, keeps_copies}
 use Rattle.object_heap.proofs.Messages.{bool_cases, choose_no, choose_yes, not_both, outside_free, outside_held}

@@ -1,22 +1,21 @@
 -- What a change of marks leaves of a heap, and what the marks of some places tell.
-use Rattle.std.proofs.Common.{◌≡◌, ◌≢◌, ℕ, zero, suc, ◌+◌, ◌<◌, ◌≤◌, Bool, true, false, not, ◌||◌, cond, List, [], ◌∷◌, length, Option, Some, None, is_some, IsSomeAnd, refl, sym, ap, subst, ◌∙◌, inl, inr, ◌⊎◌, arith}
+use Rattle.std.proofs.Common.{◌≡◌, ℕ, zero, suc, ◌+◌, ◌<◌, ◌≤◌, Bool, true, false, not, ◌||◌, cond, Some, refl, sym, ap, ◌∙◌, inl, inr, arith}
 use Rattle.std.specs.List.{list_any, range_with_len}
 use Rattle.std.proofs.lemmas.Bool.{cases_lt, cases_eq, false≢true}
 use Rattle.mpc_values.specs.declared.values.Obj.{Obj}
 use Rattle.mpc_values.specs.declared.owners.Owner.{Owner}
-use Rattle.memory_model.specs.Memory.{Object}
 use Rattle.memory_model.specs.Marks.{is_some_place, barred_to_loads, barred_to_stores}
 use Rattle.block_table.specs.declared.rows.Row.{Row}
 use Rattle.block_table.specs.declared.rows.Mark.{Mark}
 use Rattle.block_table.specs.declared.rows.Mark.TheVariants.{Free, Sends, Receive}
-use Rattle.block_table.specs.Rows.{Live, Rows, live, row_in, IsLive, IsNamed, Marks, AreMarked, mark_at, mark_in, is_in, is_free, is_send, is_receive}
+use Rattle.block_table.specs.Rows.{Rows, live, row_in, IsLive, IsNamed, Marks, AreMarked, mark_at, mark_in, is_in, is_free, is_send, is_receive}
 use Rattle.object_heap.specs.declared.heap.Heap.TheInside.{Inside}
 use Rattle.object_heap.specs.Layout.{Layout, row_of, is_in_row, IsSound}
 use Rattle.object_heap.specs.Kept.{seen_of, IsKept}
-use Rattle.object_heap.specs.Marks.{mark_of, marks_in}
+use Rattle.object_heap.specs.Marks.{marks_in}
 use Rattle.object_heap.specs.Changes.{KeepsObjects}
 use Rattle.object_heap.specs.Copies.{KeepsCopies}
-use Rattle.object_heap.proofs.Words.{in_range, above_range, range_low, range_high}
+use Rattle.object_heap.proofs.Words.{above_range, range_low, range_high}
 use Rattle.object_heap.proofs.Rows.{live_row, row_live, live_at, same_ranges, range_by_row}
 use Rattle.object_heap.proofs.Heaps.{keeps_objects, rows_marked, sound_kept, mark_named}
 use Rattle.object_heap.proofs.Copies.{IsNoRow, keeps_copies}

@@ -1,11 +1,9 @@
 -- What messages leave of a heap: copies from object to object, into a range of their own, and from there.
-use Rattle.std.proofs.Common.{◌≡◌, ◌≢◌, ℕ, zero, suc, ◌+◌, ◌-◌, ◌<◌, ◌≤◌, max, Bool, true, false, cond, List, length, get_or, set, Option, Some, None, is_some, IsSomeAnd, refl, sym, ap, subst, ◌∙◌, inl, inr, ◌⊎◌, arith}
+use Rattle.std.proofs.Common.{◌≡◌, ◌≢◌, ℕ, ◌+◌, ◌-◌, ◌<◌, ◌≤◌, Bool, true, false, cond, List, length, get_or, set, Option, Some, None, is_some, refl, sym, ap, subst, ◌∙◌, inl, inr, ◌⊎◌, arith}
 use Rattle.std.proofs.lemmas.Bool.{cases_lt, cases_eq, false≢true}
-use Rattle.std.proofs.lemmas.List.{length-set, get_or-set_same, get_or-set_other, get_or_past}
+use Rattle.std.proofs.lemmas.List.{get_or-set_other}
 use Rattle.mpc_values.specs.declared.values.Word.{Word}
 use Rattle.mpc_values.specs.declared.values.Word.TheVariants.{Undef}
-use Rattle.memory_model.specs.Memory.{Object}
-use Rattle.memory_model.specs.Ranges.{overwritten}
 use Rattle.memory_model.specs.Access.{with_word}
 use Rattle.mpi_copy.specs.declared.Held.{Held}
 use Rattle.mpi_copy.specs.Copies.{Holds, Lands}
@@ -13,18 +11,18 @@ use Rattle.block_table.specs.declared.rows.Row.{Row}
 use Rattle.block_table.specs.declared.rows.Span.{Span}
 use Rattle.block_table.specs.declared.rows.Mark.{Mark}
 use Rattle.block_table.specs.declared.rows.Mark.TheVariants.{Free, Sends, Receive}
-use Rattle.block_table.specs.Rows.{Rows, live, row_in, IsLive, AreMarked, mark_at, is_send, is_receive}
-use Rattle.word_region.specs.Places.{Places, cell, is_in, IsHeld, IsFree, IsFirstFit, Releases, Shifts}
+use Rattle.block_table.specs.Rows.{live, AreMarked, mark_at, is_send, is_receive}
+use Rattle.word_region.specs.Places.{Places, cell, is_in, IsFree, Releases, Shifts}
 use Rattle.object_heap.specs.declared.heap.Heap.TheInside.{Inside}
-use Rattle.object_heap.specs.Layout.{Layout, row_of, is_in_row, IsSound, HasPlaces}
+use Rattle.object_heap.specs.Layout.{Layout, row_of, is_in_row, IsSound}
 use Rattle.object_heap.specs.Objects.{word_or, word_at, words_from, with_words, span_words}
-use Rattle.object_heap.specs.Kept.{seen_of, IsKept, ranges_of}
+use Rattle.object_heap.specs.Kept.{seen_of, IsKept}
 use Rattle.object_heap.specs.Changes.{Edits, KeepsObjects}
 use Rattle.object_heap.specs.Copies.{IsCopy, IsOneCopy, KeepsCopies, GainsCopy, LosesCopy, copy_words}
-use Rattle.object_heap.proofs.Words.{in_range, below_range, above_range, range_low, range_high, length_words, get_words, same_words, written_words, overwritten_words}
+use Rattle.object_heap.proofs.Words.{in_range, range_low, range_high, length_words, get_words, same_words, written_words, overwritten_words}
 use Rattle.object_heap.proofs.Rows.{row_live, live_row, one_row}
 use Rattle.object_heap.proofs.Heaps.{edits, keeps_objects, sound_kept, span_words_are}
-use Rattle.object_heap.proofs.Copies.{IsNoRow, keeps_copies, gains_copy, loses_copy}
+use Rattle.object_heap.proofs.Copies.{keeps_copies, gains_copy, loses_copy}
 
 -- the heap with other places and copies
 abbrev pub with_region : Inside → Places → ℕ → Inside

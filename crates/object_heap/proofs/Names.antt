@@ -1,7 +1,7 @@
 -- The keys of names.
-use Rattle.std.proofs.Common.{◌≡◌, ℕ, zero, suc, ◌+◌, ◌<◌, ◌≤◌, Bool, true, false, cond, nat_lt, not, List, [], ◌∷◌, length, get_or, Option, Some, None, is_some, IsSomeAnd, refl, sym, ap, subst, ◌∙◌, inl, inr, ◌⊎◌, arith}
-use Rattle.std.specs.List.{position, position_or_len}
-use Rattle.std.proofs.lemmas.Bool.{cases_lt, cases_eq, false≢true}
+use Rattle.std.proofs.Common.{◌≡◌, ℕ, zero, suc, ◌<◌, Bool, true, false, cond, nat_lt, List, length, get_or, Option, Some, None, IsSomeAnd, refl, sym, ap, ◌∙◌, inl, inr, ◌⊎◌, arith}
+use Rattle.std.specs.List.{position_or_len}
+use Rattle.std.proofs.lemmas.Bool.{cases_lt, false≢true}
 use Rattle.std.proofs.lemmas.Bool.Decides.{nat_tests}
 use Rattle.std.proofs.lemmas.List.{get_or_past}
 use Rattle.std.proofs.lemmas.List.Sums.{position_or_len_is, fails_before_first}
@@ -15,8 +15,7 @@ use Rattle.mpc_values.specs.declared.owners.Owner.TheVariants.{Task, Inst}
 use Rattle.memory_model.specs.Memory.{level_number, key_of, is_same_object}
 use Rattle.memory_model.proofs.Maps.{same_key, alike}
 use Rattle.block_table.specs.declared.rows.Row.{Row}
-use Rattle.block_table.specs.Rows.{Live, Rows, live, row_in, IsLive, IsNamed, IsNoName, IsNamedOnce}
-use Rattle.block_table.specs.Index.{IsSame}
+use Rattle.block_table.specs.Rows.{Live, Rows, live, row_in, IsNamed, IsNoName, IsNamedOnce}
 use Rattle.object_heap.specs.Objects.{is_named, key_named}
 
 level_from : ℕ → Level

@@ -1,12 +1,12 @@
 -- Live rows: what is known of one, how many ranges they have, and how they are listed.
-use Rattle.std.proofs.Common.{◌≡◌, ◌≢◌, ℕ, zero, suc, ◌+◌, ◌<◌, ◌≤◌, Bool, true, false, cond, nat_lt, List, [], ◌∷◌, length, get_or, slice_get, sum_by, Option, Some, None, is_some, IsSomeAnd, refl, sym, ap, subst, ◌∙◌, inl, inr, ◌⊎◌, arith}
-use Rattle.std.proofs.lemmas.Bool.{cases_lt, cases_eq, false≢true}
+use Rattle.std.proofs.Common.{◌≡◌, ◌≢◌, ℕ, zero, suc, ◌+◌, ◌<◌, ◌≤◌, true, cond, nat_lt, [], ◌∷◌, slice_get, Option, Some, None, is_some, IsSomeAnd, refl, sym, ap, subst, ◌∙◌, arith}
+use Rattle.std.proofs.lemmas.Bool.{false≢true}
 use Rattle.std.proofs.lemmas.Bool.Decides.{nat_tests}
 use Rattle.std.proofs.lemmas.List.Sums.{sum_by-cons}
 use Rattle.block_table.specs.declared.rows.Row.{Row}
 use Rattle.block_table.specs.declared.rows.Mark.{Mark}
 use Rattle.block_table.specs.declared.rows.Mark.TheVariants.{Free, Sends, Receive}
-use Rattle.block_table.specs.Rows.{Live, Rows, live, row_in, IsLive, rows_of, is_free}
+use Rattle.block_table.specs.Rows.{Live, Rows, live, row_in, rows_of, is_free}
 use Rattle.object_heap.specs.Kept.{range_of, range_in, ranges_of}
 
 -- the row of a live slot

@@ -1,6 +1,5 @@
 -- What calls change of the objects, and what they leave.
-use Rattle.std.specs.Prelude.{◌≡◌, ◌≢◌, ℕ, ◌<◌, ◌≤◌, List, length, replicate, Option, Some, None}
-use Rattle.mpc_values.specs.declared.values.Word.{Word}
+use Rattle.std.specs.Prelude.{◌≡◌, ◌≢◌, ℕ, ◌≤◌, length, replicate, Option, Some, None}
 use Rattle.mpc_values.specs.declared.values.Obj.{Obj}
 use Rattle.mpc_values.specs.declared.owners.Owner.{Owner}
 use Rattle.memory_model.specs.declared.kinds.Kind.{Kind}
@@ -8,7 +7,7 @@ use Rattle.memory_model.specs.Memory.{Object}
 use Rattle.block_table.specs.declared.rows.Row.{Row}
 use Rattle.block_table.specs.declared.rows.Span.{Span}
 use Rattle.block_table.specs.declared.rows.Mark.TheVariants.{Free}
-use Rattle.block_table.specs.Rows.{Live, live, row_in, IsNamed, Changes}
+use Rattle.block_table.specs.Rows.{live, IsNamed, Changes}
 use Rattle.block_table.specs.Index.{IsSame}
 use Rattle.word_region.specs.Places.{cell, IsFirstFit, Takes, Releases}
 use Rattle.object_heap.specs.Layout.{Layout, row_of, IsSpan}

@@ -3,7 +3,6 @@ use Rattle.std.specs.Prelude.{◌≡◌, ℕ, ◌<◌, true, false, List, [], �
 use Rattle.std.specs.List.{All}
 use Rattle.mpc_values.specs.declared.values.Word.{Word}
 use Rattle.mpi_copy.specs.declared.Held.{Held}
-use Rattle.block_table.specs.declared.rows.Row.{Row}
 use Rattle.block_table.specs.Rows.{IsLive}
 use Rattle.word_region.specs.Places.{is_in, IsHeld}
 use Rattle.object_heap.specs.Layout.{Layout, is_in_row}

@@ -7,7 +7,7 @@ use Rattle.block_table.specs.declared.rows.Row.{Row}
 use Rattle.block_table.specs.declared.rows.Mark.TheVariants.{Free}
 use Rattle.block_table.specs.declared.rows.Span.{Span}
 use Rattle.block_table.specs.Rows.{Rows, live, row_in, IsLive, IsNamed, IsNamedOnce, mark_at}
-use Rattle.word_region.specs.Places.{cell, is_in, IsHeld}
+use Rattle.word_region.specs.Places.{is_in, IsHeld}
 
 -- The live rows by their keys, with the marks of their places; the places of the region, with the word of each held one; and
 -- how many copies of messages stand in it.

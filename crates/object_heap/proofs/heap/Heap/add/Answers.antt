@@ -1,6 +1,6 @@
 use Rattle.std.proofs.Common.{◌≡◌, replicate, Some, None, subst, sym}
 use Rattle.mpc_values.specs.declared.values.Word.TheVariants.{Undef}
-use Rattle.block_table.specs.Rows.{Rows, IsNoName}
+use Rattle.block_table.specs.Rows.{Rows}
 use Rattle.object_heap.specs.Layout.{Layout}
 use Rattle.object_heap.specs.Objects.{object_in}
 use Rattle.object_heap.specs.Kept.{seen_of}

@@ -1,4 +1,4 @@
-use Rattle.std.proofs.Common.{◌≡◌, ◌∙◌, ℕ, not, true, length, Some, IsSomeAnd, subst, sym, ap}
+use Rattle.std.proofs.Common.{◌≡◌, ◌∙◌, not, length, Some, IsSomeAnd, subst, sym, ap}
 use Rattle.memory_model.specs.Memory.{Object}
 use Rattle.memory_model.specs.Marks.{barred_to_stores, is_some_place}
 use Rattle.mpc_values.specs.declared.values.Obj.{Obj}

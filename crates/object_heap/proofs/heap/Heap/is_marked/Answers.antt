@@ -1,8 +1,8 @@
-use Rattle.std.proofs.Common.{◌≡◌, ◌∙◌, not, false, subst, sym}
+use Rattle.std.proofs.Common.{◌≡◌, ◌∙◌, false, subst, sym}
 use Rattle.mpc_values.specs.declared.values.Obj.{Obj}
 use Rattle.mpc_values.specs.declared.owners.Owner.{Owner}
 use Rattle.memory_model.specs.Marks.{barred_to_stores, is_some_place}
-use Rattle.block_table.specs.Rows.{IsNamed, AreMarked, is_free, is_receive}
+use Rattle.block_table.specs.Rows.{IsNamed, AreMarked, is_free}
 use Rattle.object_heap.specs.Layout.{Layout}
 use Rattle.object_heap.specs.Kept.{seen_of}
 use Rattle.object_heap.specs.Marks.{marks_in}

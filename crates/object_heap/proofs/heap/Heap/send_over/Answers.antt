@@ -1,4 +1,4 @@
-use Rattle.std.proofs.Common.{◌≡◌, ◌+◌, ◌≤◌, ◌⊎◌, subst, sym, ap}
+use Rattle.std.proofs.Common.{◌≡◌, ◌+◌, ◌≤◌, ◌⊎◌, subst, sym}
 use Rattle.block_table.specs.Rows.{AreMarked, is_send, is_receive}
 use Rattle.object_heap.specs.Layout.{Layout, HasPlaces}
 use Rattle.object_heap.specs.Objects.{with_words, span_words}

@@ -1,6 +1,5 @@
-use Rattle.std.proofs.Common.{◌≡◌, ◌∙◌, ◌+◌, ◌<◌, set, Some, subst, sym, ap}
+use Rattle.std.proofs.Common.{◌≡◌, ◌∙◌, ◌+◌, ◌<◌, subst, sym, ap}
 use Rattle.memory_model.specs.Access.{with_word}
-use Rattle.block_table.specs.declared.rows.Row.{Row}
 use Rattle.block_table.specs.Rows.{IsLive, live}
 use Rattle.word_region.specs.Places.{Places}
 use Rattle.object_heap.specs.Layout.{Layout}
