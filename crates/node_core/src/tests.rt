@@ -1,5 +1,5 @@
 //! Tables of calls and what becomes of them, worked out by hand, and one node.
-ghost use Rattle.std.specs.Prelude.{◌≡◌, ◌<◌, ◌-◌, ◌^◌, true, length, slice_get, IfOk, IfSome, List, [], pos};
+ghost use Rattle.std.specs.Prelude.{◌≡◌, ◌<◌, ◌≤◌, ◌-◌, ◌^◌, true, length, slice_get, IfOk, IfSome, List, [], pos};
 ghost use Rattle.mpc_values.specs.declared.calls.Call.TheVariants.{Finish};
 ghost use Rattle.mpc_values.specs.declared.answers.Answer.{Answer as TheAnswer};
 ghost use Rattle.c_tree.specs.Asking.{Asks, asked};
@@ -9,20 +9,28 @@ ghost use Rattle.c_tree.specs.Scripts.{over};
 ghost use Rattle.run_model.specs.Setup.{setup_of};
 ghost use Rattle.run_model.specs.Valid.{Valid};
 ghost use Rattle.node_core.specs.Built.{IsBuilt};
+ghost use Rattle.node_core.specs.Stands.{IsSpaceOf};
 
 use crate::parts::{State, TaskPart};
 use crate::{Node, Reply};
 use c_tree::Globals;
 use c_tree::program::{Constructs, Ending, Function, Params, Program};
-use mpc_base::{Answer, Call, Cores, End, Fault, Memory, Out, Text, Word};
+use mpc_base::{Answer, Call, Cores, End, Fault, Memory, Obj, Out, Text, Word};
 use run_model::{Last, Setup};
 use std::alloc::Global;
+use std::process::Abort;
 use std::test::*;
 use topology::flat;
 
 // A call, with its text as bytes.
 #[derive(Clone, Copy)]
 enum Ask {
+    Load(Word),
+    Store(Word, Word),
+    New(u32),
+    Drop(Obj),
+    Malloc(i64),
+    Free(Word),
     Print(&'static [u8]),
     Broke(Fault),
     Finish(i32),
@@ -37,6 +45,12 @@ fn call_of(alloc: Global, ask: Ask) -> Result<Call, Memory>
     ensures { IfOk result (λ call. IsBuilt call) }
 {
     Ok(match ask {
+        Ask::Load(at) => Call::Load { at },
+        Ask::Store(at, word) => Call::Store { at, word },
+        Ask::New(len) => Call::New { len },
+        Ask::Drop(obj) => Call::Drop { obj },
+        Ask::Malloc(n) => Call::Malloc { n },
+        Ask::Free(at) => Call::Free { at },
         Ask::Print(text) => Call::Print {
             text: Text::of(Vec::from_slice(alloc, text)?),
         },
@@ -61,12 +75,32 @@ fn has_room(parts: &[TaskPart], task: u32) -> bool
 }
 
 fn step(setup: &Setup, state: &mut State, task: u32, call: &Call) -> Result<Out, Memory>
-    requires { IsBuilt call.now }
+    requires built { IsBuilt call.now }
+    requires set { IsSpaceOf (setup_of setup.now) state.old.shared.space }
+    ensures set { IsSpaceOf (setup_of setup.now) state.new.shared.space }
 {
-    if !has_room(state.tasks.as_slice(), task) {
+    if !has_room(state.tasks.as_slice(), task) || setup.cores.as_slice().len() <= task as usize {
         return Err(Memory);
     }
     state.step(setup, task, call, 7)
+}
+
+// A step for each row: a task, its call, and what has to become of it.
+fn steps<R: Abort>(
+    rt: &R,
+    alloc: Global,
+    setup: &Setup,
+    state: &mut State,
+    rows: &[Row],
+) -> Result<(), Memory>
+    requires set { IsSpaceOf (setup_of setup.now) state.old.shared.space }
+    ensures set { IsSpaceOf (setup_of setup.now) state.new.shared.space }
+{
+    for (task, ask, want) in rows {
+        let call = call_of(alloc, *ask)?;
+        assert_eq!(rt; step(setup, state, *task, &call)?, *want);
+    }
+    Ok(())
 }
 
 // A program whose main, which ends at line 3, has no statements.
@@ -93,17 +127,28 @@ fn empty_program(alloc: Global) -> Result<Program, Memory>
     })
 }
 
-// Two tasks on two cores, each of which may have so many entries.
-fn setup(alloc: Global, calls: u32) -> Result<Setup, Memory> {
+// Two tasks of an empty program on two cores, each of which may have so many entries.
+fn valid_setup(alloc: Global, calls: u32) -> Result<Setup, Memory>
+    requires some { 1 ≤ calls }
+    requires few { calls ≤ 1000 }
+    ensures valid { IfOk result (λ setup. Valid (setup_of setup)) }
+    ensures asks { IfOk result (λ setup. next_of (setup_of setup).program [] ≡ Asks (Finish (pos 0)) 3) }
+{
+    let program = empty_program(alloc)?;
+    let machine = flat(alloc, 2)?;
+    let list = Vec::from_slice(alloc, &[0, 1])?;
+    let cores = Cores::of(list);
     Ok(Setup {
-        program: empty_program(alloc)?,
-        machine: flat(alloc, 2)?,
-        cores: Cores::of(Vec::from_slice(alloc, &[0, 1])?),
+        program,
+        machine,
+        cores,
         eager: 1_024,
         quota: 65_536,
         calls,
     })
 }
+
+type Row = (u32, Ask, Out);
 
 const WORLD: Word = Word::Comm(1);
 
@@ -144,12 +189,9 @@ fn calls_of_two_tasks_come_to_what_they_should(rt: HostRuntime) -> Result<(), Fa
         (1, Ask::Abort(WORLD, 4), gives(4)),
     ];
     let alloc = rt.alloc();
-    let setup = setup(alloc, 100)?;
-    let mut state = State::new(alloc, 2)?;
-    for (task, ask, want) in rows.iter() {
-        let call = call_of(alloc, *ask)?;
-        assert_eq!(rt; step(&setup, &mut state, *task, &call)?, *want);
-    }
+    let setup = valid_setup(alloc, 100)?;
+    let mut state = State::new(alloc, &setup)?;
+    steps(&rt, alloc, &setup, &mut state, &rows)?;
     let aborted = Last::Aborted {
         task: 1,
         code: 4,
@@ -159,11 +201,54 @@ fn calls_of_two_tasks_come_to_what_they_should(rt: HostRuntime) -> Result<(), Fa
     Ok(())
 }
 
+// A pointer to a place of the object that the task made as its k-th.
+const fn own(k: u32, at: u32) -> Word {
+    Word::Ptr {
+        obj: Obj::Dyn(k),
+        at,
+    }
+}
+
+const fn word(word: Word) -> Out {
+    Out::Did(Answer::Gives(word))
+}
+
+#[test]
+fn memories_of_two_tasks_are_apart(rt: HostRuntime) -> Result<(), Fail> {
+    let rows = [
+        (0, Ask::New(2), word(own(1, 0))),
+        (0, Ask::Load(own(1, 0)), fault(Fault::Uninit)),
+        (0, Ask::Store(own(1, 1), Word::Int(7)), DONE),
+        (0, Ask::Load(own(1, 1)), gives(7)),
+        (1, Ask::Load(own(1, 1)), fault(Fault::Dangling)),
+        (0, Ask::Store(own(1, 2), Word::Int(7)), fault(Fault::Bounds)),
+        (0, Ask::Load(Word::Null), fault(Fault::NullAccess)),
+        (1, Ask::Malloc(-1), word(Word::Null)),
+        (1, Ask::Malloc(65_536), word(own(1, 0))),
+        (1, Ask::Malloc(1), word(Word::Null)),
+        (1, Ask::New(1), fault(Fault::StackFull)),
+        (0, Ask::New(1), word(own(2, 0))),
+        (0, Ask::Free(own(2, 0)), fault(Fault::Dangling)),
+        (1, Ask::Free(own(1, 1)), fault(Fault::Dangling)),
+        (1, Ask::Free(own(1, 0)), DONE),
+        (1, Ask::Free(Word::Null), DONE),
+        (1, Ask::New(1), word(own(2, 0))),
+        (0, Ask::Drop(Obj::Dyn(1)), DONE),
+        (0, Ask::Load(own(1, 1)), fault(Fault::Dangling)),
+        (0, Ask::Drop(Obj::Dyn(1)), fault(Fault::Dangling)),
+    ];
+    let alloc = rt.alloc();
+    let setup = valid_setup(alloc, 100)?;
+    let mut state = State::new(alloc, &setup)?;
+    steps(&rt, alloc, &setup, &mut state, &rows)?;
+    Ok(())
+}
+
 #[test]
 fn entry_after_the_last_one_is_calls(rt: HostRuntime) -> Result<(), Fail> {
     let alloc = rt.alloc();
-    let setup = setup(alloc, 2)?;
-    let mut state = State::new(alloc, 2)?;
+    let setup = valid_setup(alloc, 2)?;
+    let mut state = State::new(alloc, &setup)?;
     assert_eq!(rt; step(&setup, &mut state, 0, &Call::Init)?, DONE);
     assert_eq!(rt; step(&setup, &mut state, 0, &Call::Finalize)?, DONE);
     assert_eq!(rt;
@@ -180,29 +265,10 @@ fn entry_after_the_last_one_is_calls(rt: HostRuntime) -> Result<(), Fail> {
     Ok(())
 }
 
-// Two tasks of an empty program, as a node takes them.
-fn valid_setup(alloc: Global) -> Result<Setup, Memory>
-    ensures valid { IfOk result (λ setup. Valid (setup_of setup)) }
-    ensures asks { IfOk result (λ setup. next_of (setup_of setup).program [] ≡ Asks (Finish (pos 0)) 3) }
-{
-    let program = empty_program(alloc)?;
-    let machine = flat(alloc, 2)?;
-    let list = Vec::from_slice(alloc, &[0, 1])?;
-    let cores = Cores::of(list);
-    Ok(Setup {
-        program,
-        machine,
-        cores,
-        eager: 1_024,
-        quota: 65_536,
-        calls: 100,
-    })
-}
-
 #[test]
 fn node_keeps_a_run_of_two_tasks(rt: HostRuntime) -> Result<(), Fail> {
     let alloc = rt.alloc();
-    let setup = valid_setup(alloc)?;
+    let setup = valid_setup(alloc, 100)?;
     let mut node = Node::new(alloc, setup)?;
     assert_eq!(rt; node.ended(), End::Going);
     assert!(rt; node.can_go(0) && node.can_go(1) && !node.can_go(2));
@@ -212,8 +278,14 @@ fn node_keeps_a_run_of_two_tasks(rt: HostRuntime) -> Result<(), Fail> {
     assert_eq!(rt; node.journal().tasks, 2);
     assert_eq!(rt; node.journal().entries.as_slice().len(), 1);
     assert!(rt; node.can_go(0) && !node.can_go(1));
+    assert_eq!(rt; node.tasks(), 2);
+    assert_eq!(rt; node.space().rows()?.len(), 0);
     node.stop_with(End::NoThread);
     assert_eq!(rt; node.ended(), End::NoThread);
     assert!(rt; !node.can_go(0));
+    let record = node.into_record()?;
+    assert_eq!(rt; record.end, End::NoThread);
+    assert_eq!(rt; record.ranks.as_slice().len(), 2);
+    assert!(rt; record.map.is_none() && record.words.is_none());
     Ok(())
 }

@@ -26,18 +26,18 @@ only_finish : (answers : List Answer) (call : Call) (line : ℕ) → asked (Fini
 only_finish [] call line h = cc
 only_finish (a ∷ more) call line h = absurd (none_else (fits (Finish (pos 0)) a) more call line h)
 
-module _ (program : Program) (asks : (answers : List Answer) → next_of program answers ≡ asked (Finish (pos 0)) 3 (λ answer more. over more) answers) (machine : List CoreNumbers) (cores : List ℕ) where
+module _ (program : Program) (asks : (answers : List Answer) → next_of program answers ≡ asked (Finish (pos 0)) 3 (λ answer more. over more) answers) (machine : List CoreNumbers) (cores : List ℕ) (calls : ℕ) where
   small : Setup
-  small = record { program = program; machine = machine; cores = cores; eager = 1024; quota = 65536; calls = 100 }
+  small = record { program = program; machine = machine; cores = cores; eager = 1024; quota = 65536; calls = calls }
 
   known : AsksKnown small
   unfolding small
   known answers call line h = subst (IsKnown small) (only_finish answers call line (sym (asks answers) ∙ h)) tt
 
-  pub valid : program.variables ≡ [] → program.constructs ≡ [] → program.main < length program.functions → machine ≡ flat_machine 2 → cores ≡ 0 ∷ 1 ∷ []
-      → Valid (record { program = program; machine = machine; cores = cores; eager = 1024; quota = 65536; calls = 100 })
+  pub valid : 1 ≤ calls → calls ≤ 1000 → program.variables ≡ [] → program.constructs ≡ [] → program.main < length program.functions → machine ≡ flat_machine 2 → cores ≡ 0 ∷ 1 ∷ []
+      → Valid (record { program = program; machine = machine; cores = cores; eager = 1024; quota = 65536; calls = calls })
   unfolding small
-  valid variables constructs main flat two = record {
+  valid some few variables constructs main flat two = record {
     some_task = subst (λ l. 1 ≤ length l) (sym two) (omega arith);
     few_tasks = subst (λ l. length l ≤ 64) (sym two) (omega arith);
     few_cores = subst (λ l. length l ≤ 256) (sym flat) (omega arith);
@@ -45,9 +45,9 @@ module _ (program : Program) (asks : (answers : List Answer) → next_of program
     placed = subst (λ l. All (λ core. core < length machine) l) (sym two) (subst (λ l. All (λ core. core < length l) (0 ∷ 1 ∷ [])) (sym flat) (All-cons (λ core. core < 2) 0 (1 ∷ []) (omega arith) (All-cons (λ core. core < 2) 1 [] (omega arith) (All-nil (λ core. core < 2)))));
     eager = omega arith;
     quota = omega arith;
-    some_call = omega arith;
-    few_calls = omega arith;
-    few_entries = subst (λ l. length l * 100 ≤ 16000000) (sym two) (omega arith);
+    some_call = some;
+    few_calls = omega (arith, few);
+    few_entries = subst (λ l. length l * calls ≤ 16000000) (sym two) (omega (arith, few));
     few_variables = subst (λ l. length l ≤ 4096) (sym variables) (omega arith);
     few_words = subst (λ l. sum (map (λ (v : StaticVar). v.len) l) ≤ 262144) (sym variables) (omega arith);
     few_constructs = subst (λ l. length l ≤ 256) (sym constructs) (omega arith);
@@ -58,7 +58,7 @@ module _ (program : Program) (asks : (answers : List Answer) → next_of program
 
 pub returns-clause-valid : goal.returns-clause-valid
 returns-clause-valid c =
-    valid (program_of c.in_ok-program.program) c.in_ok-program.ensures.asks c.in_ok-machine.machine c.of-cores.result c.in_ok-program.ensures.variables c.in_ok-program.ensures.constructs c.in_ok-program.ensures.main
+    valid (program_of c.in_ok-program.program) c.in_ok-program.ensures.asks c.in_ok-machine.machine c.of-cores.result c.args.calls c.requires.some c.requires.few c.in_ok-program.ensures.variables c.in_ok-program.ensures.constructs c.in_ok-program.ensures.main
     c.in_ok-machine.ensures (c.of-cores.ensures ∙ c.in_ok-list.ensures.items)
 
 pub returns-clause-asks : goal.returns-clause-asks
