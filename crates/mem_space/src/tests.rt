@@ -345,3 +345,40 @@ fn images_stand_one_behind_the_other(rt: HostRuntime) -> Result<(), Fail> {
     }
     Ok(())
 }
+
+/// Sends words of the first task's places to the second task's, directly. Tells whether it did.
+fn direct(space: &mut Space, from: Word, count: u32, to: Word, room: u32) -> bool
+    requires two { length space.old.sharing.cores ≡ 2 }
+    requires none { (owner : Owner) (obj : Obj) (p : ℕ) → sends (mark_of space.old.heap owner obj p) ≤ 0 }
+    requires some { 0 < count }
+    requires fits { count ≤ room }
+    ensures two { length space.new.sharing.cores ≡ 2 }
+{
+    let Ok(target) = space.pend_recv(1, to, room) else {
+        return false;
+    };
+    let Ok(source) = space.pend_send(0, from, count) else {
+        return false;
+    };
+    space.send_over(source, target);
+    space.unpend(source, true);
+    space.unpend(target, false);
+    true
+}
+
+#[test]
+fn a_message_moves_to_the_first_places_of_its_receive(rt: HostRuntime) -> Result<(), Fail> {
+    let mut space = on_m8(rt.alloc(), &Placement::Scatter, 0)?.ok_or("space")?;
+    assert!(rt; direct(&mut space, glob(2, 0), 2, glob(1, 0), 2));
+    // Two words of 3 have come into the second memory's variable, whose words were 2.
+    assert_eq!(rt; space.load(1, glob(1, 0)), Ok(Word::Int(3)));
+    assert_eq!(rt; space.load(1, glob(1, 1)), Ok(Word::Int(3)));
+    assert_eq!(rt; space.load(0, glob(1, 1)), Ok(Word::Int(2)));
+    assert_eq!(rt; space.store(1, glob(1, 1), Word::Null), Ok(()));
+    // A shorter message writes the first places alone.
+    let mut short = on_m8(rt.alloc(), &Placement::Scatter, 0)?.ok_or("space")?;
+    assert!(rt; direct(&mut short, glob(0, 0), 1, glob(1, 0), 2));
+    assert_eq!(rt; short.load(1, glob(1, 0)), Ok(Word::Int(1)));
+    assert_eq!(rt; short.load(1, glob(1, 1)), Ok(Word::Int(2)));
+    Ok(())
+}
