@@ -4,6 +4,7 @@
 mod marks;
 mod objects;
 mod ranges;
+mod spaces;
 #[cfg(test)]
 mod tests;
 mod work;
@@ -13,10 +14,11 @@ use anyhow::{Context, Result, anyhow};
 use std::env;
 
 /// What is done without words: each kind of work a little.
-const SAMPLES: [(Work, usize, usize); 3] = [
+const SAMPLES: [(Work, usize, usize); 4] = [
     (Work::Stack, 10, 100),
     (Work::Random, 10, 100),
     (Work::Access, 10, 100),
+    (Work::Space, 10, 100),
 ];
 
 fn main(rt: HostRuntime) -> Result<()> {
@@ -28,7 +30,7 @@ fn main(rt: HostRuntime) -> Result<()> {
         }
         return Ok(());
     };
-    let work = work_of(kind.as_str()).context("the work is stack, random or access")?;
+    let work = work_of(kind.as_str()).context("the work is stack, random, access or space")?;
     let count = number(words.next())?;
     let rounds = number(words.next())?;
     tell(rt, work, count, rounds)
@@ -49,6 +51,9 @@ fn tell(rt: HostRuntime, work: Work, count: usize, rounds: usize) -> Result<()> 
         Work::Access => println!(rt;
             "access of {count}, {rounds} rounds: {first} loads and {second} stores"
         )?,
+        Work::Space => println!(rt;
+            "space of {count}, {rounds} rounds: {first} loads and {second} stores"
+        )?,
     }
     Ok(())
 }
@@ -59,6 +64,7 @@ fn work_of(word: &str) -> Option<Work> {
         "stack" => Some(Work::Stack),
         "random" => Some(Work::Random),
         "access" => Some(Work::Access),
+        "space" => Some(Work::Space),
         _ => None,
     }
 }

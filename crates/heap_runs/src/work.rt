@@ -2,6 +2,7 @@
 
 use crate::objects::Objects;
 use crate::ranges::Ranges;
+use crate::spaces::OneTask;
 use mpc_values::{Memory, Obj, Owner, Word};
 use rand_core::{Rng, SeedableRng};
 use rand_pcg::Pcg32;
@@ -16,6 +17,8 @@ pub enum Work {
     Random,
     /// A load and a store a round, of one object after the other.
     Access,
+    /// The same through the space of a task.
+    Space,
 }
 
 /// What stands at the end: two numbers, which the kind of work tells.
@@ -28,6 +31,7 @@ pub fn done(alloc: Global, work: Work, count: usize, rounds: usize) -> Result<Co
         Work::Stack => stack(alloc, count, rounds),
         Work::Random => random(alloc, count, rounds),
         Work::Access => access(alloc, count, rounds),
+        Work::Space => space(alloc, count, rounds),
     }
 }
 
@@ -88,6 +92,32 @@ fn access(alloc: Global, count: usize, rounds: usize) -> Result<Counts, Memory> 
         }
         if objects.store(owner, Obj::Dyn(obj), 1, Word::Int(7)) {
             stores = stores.saturating_add(1);
+        }
+    }
+    Ok((loads, stores))
+}
+
+fn space(alloc: Global, count: usize, rounds: usize) -> Result<Counts, Memory> {
+    let mut task = OneTask::new(alloc, u32::MAX)?;
+    for _ in 0..count {
+        task.make(4)?;
+    }
+    let most = u32::try_from(count).unwrap_or(u32::MAX);
+    let mut made = 0u32;
+    let mut loads = 0usize;
+    let mut stores = 0usize;
+    for _ in 0..rounds {
+        made = if made < most {
+            made.saturating_add(1)
+        } else {
+            1
+        };
+        let obj = Obj::Dyn(made);
+        if task.store(Word::Ptr { obj, at: 1 }, Word::Int(7)) {
+            stores = stores.saturating_add(1);
+        }
+        if task.load(Word::Ptr { obj, at: 1 }).is_some() {
+            loads = loads.saturating_add(1);
         }
     }
     Ok((loads, stores))
