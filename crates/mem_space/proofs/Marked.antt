@@ -107,6 +107,7 @@ pends s h task at count stored change span r some marked objects spans copies = 
   places = record { owner = owner_for s.sharing task r.obj; obj = r.obj; at = span.at; count = count };
   named = λ m shows. spans_by_count (owner_for s.sharing task) (barred stored (marks_in s.heap)) m at count some ∙ ap (span_in count) (range_within s task at count stored span r m shows);
   there = record { there = spans span (owner_for s.sharing task r.obj) r.obj r.there; at = refl; count = r.len };
+  len = r.len;
   marks = remarks s h span (record { owner = owner_for s.sharing task r.obj; obj = r.obj; at = span.at; count = count }) change (record { there = r.there; at = refl; count = r.len }) marked objects spans copies;
 }
 

@@ -1,5 +1,5 @@
 -- Marked places stay marked.
-use Rattle.std.proofs.Common.{◌≡◌, ℕ, ◌+◌, ◌<◌, ◌≤◌, Bool, true, false, if◌then◌else◌, Option, Some, None, is_some, refl, sym, ap, subst, ◌∙◌, inl, inr, arith}
+use Rattle.std.proofs.Common.{◌≡◌, ℕ, ◌+◌, ◌<◌, ◌≤◌, Bool, true, false, if◌then◌else◌, Option, Some, None, is_some, refl, sym, ap, ◌∙◌, inl, inr, arith}
 use Rattle.std.proofs.lemmas.Bool.{false≢true}
 use Rattle.mpc_values.specs.declared.values.Obj.{Obj}
 use Rattle.mpc_values.specs.declared.owners.Owner.{Owner}
@@ -8,7 +8,6 @@ use Rattle.block_table.specs.declared.rows.Span as row
 use Rattle.block_table.specs.declared.rows.Mark.{Mark}
 use Rattle.block_table.specs.declared.rows.Mark.TheVariants.{Free}
 use Rattle.block_table.specs.Rows.{is_in}
-use Rattle.block_table.specs.Index.{IsSame}
 use Rattle.block_table.proofs.Names.{same_cases}
 use Rattle.object_heap.specs.Layout.{Layout}
 use Rattle.object_heap.specs.Objects.{object_in, object_where, key_named}
@@ -16,7 +15,7 @@ use Rattle.object_heap.specs.Marks.{mark_of, mark_where, KeepsMarks}
 use Rattle.object_heap.proofs.Names.{key_is}
 use Rattle.object_heap.proofs.Heaps.{named_row, object_of_row}
 use Rattle.mem_space.specs.Spaces.{Space}
-use Rattle.mem_space.specs.Places.{IsPlaces, IsMarked, Keeps, Remarks}
+use Rattle.mem_space.specs.Places.{IsMarked, Keeps, Remarks}
 
 -- an object with a marked place lives
 pub marked_lives : (h : Layout) (owner : Owner) (obj : Obj) (p : ℕ) (test : Mark → Bool) → test Free ≡ false → test (mark_of h owner obj p) ≡ true → is_some (object_in h owner obj) ≡ true

@@ -83,6 +83,7 @@ pub record Pends (old new : Space) (task : ℕ) (at : Word) (count : ℕ) (barre
   pub places : Span
   pub named : (m : Memory) → Shows old.heap m → span_of (owner_for old.sharing task) barred m at count ≡ Ok (Some places)
   pub there : IsPlaces new span places
+  pub len : span.len ≡ count
   pub marks : Remarks old new places change
 
 -- The first of some places have the words of other places, and nothing else is changed.
