@@ -7,7 +7,7 @@ use Rattle.mem_space.proofs.tests.steps.Given as goal
 
 abbrev pub invariant-loop-second : goal.invariant-loop-second
 invariant-loop-second g l = record {
+  turns : l.turns ≡ l.second-index;
   two : length l.space.sharing.cores ≡ 2;
   few : (owner : Owner) (obj : Obj) (p : ℕ) → sends (mark_of l.space.heap owner obj p) ≤ l.turns;
-  turns : l.turns ≡ l.second-index;
 }
