@@ -154,44 +154,46 @@ const WORLD: Word = Word::Comm(1);
 
 const DONE: Out = Out::Did(Answer::Done);
 
-const fn gives(number: i64) -> Out {
-    Out::Did(Answer::Gives(Word::Int(number)))
-}
-
 const fn fault(fault: Fault) -> Out {
     Out::Broke(fault)
 }
 
+// Calls of two tasks on themselves and on their group.
+const CALLS: [Row; 22] = [
+    (0, Ask::Rank(WORLD), Out::Broke(Fault::NotInit)),
+    (0, Ask::Finalize, Out::Broke(Fault::NotInit)),
+    (0, Ask::Init, DONE),
+    (0, Ask::Init, Out::Broke(Fault::InitTwice)),
+    (1, Ask::Size(WORLD), Out::Broke(Fault::NotInit)),
+    (1, Ask::Init, DONE),
+    (0, Ask::Rank(WORLD), Out::Did(Answer::Gives(Word::Int(0)))),
+    (1, Ask::Rank(WORLD), Out::Did(Answer::Gives(Word::Int(1)))),
+    (1, Ask::Size(WORLD), Out::Did(Answer::Gives(Word::Int(2)))),
+    (1, Ask::Size(Word::Comm(0)), Out::Broke(Fault::BadComm)),
+    (1, Ask::Rank(Word::Comm(2)), Out::Broke(Fault::BadComm)),
+    (1, Ask::Rank(Word::Null), Out::Broke(Fault::BadComm)),
+    (0, Ask::Print(b"ab"), Out::Did(Answer::Gives(Word::Int(2)))),
+    (1, Ask::Print(b"\n"), Out::Did(Answer::Gives(Word::Int(1)))),
+    (0, Ask::Finish(0), Out::Broke(Fault::NoFinalize)),
+    (0, Ask::Finalize, DONE),
+    (0, Ask::Size(WORLD), Out::Broke(Fault::NotInit)),
+    (0, Ask::Init, Out::Broke(Fault::InitTwice)),
+    (0, Ask::Broke(Fault::Divide), Out::Broke(Fault::Divide)),
+    (0, Ask::Finish(-3), Out::Did(Answer::Gives(Word::Int(-3)))),
+    (1, Ask::Abort(Word::Comm(9), 4), Out::Broke(Fault::BadComm)),
+    (
+        1,
+        Ask::Abort(WORLD, 4),
+        Out::Did(Answer::Gives(Word::Int(4))),
+    ),
+];
+
 #[test]
 fn calls_of_two_tasks_come_to_what_they_should(rt: HostRuntime) -> Result<(), Fail> {
-    let rows = [
-        (0, Ask::Rank(WORLD), fault(Fault::NotInit)),
-        (0, Ask::Finalize, fault(Fault::NotInit)),
-        (0, Ask::Init, DONE),
-        (0, Ask::Init, fault(Fault::InitTwice)),
-        (1, Ask::Size(WORLD), fault(Fault::NotInit)),
-        (1, Ask::Init, DONE),
-        (0, Ask::Rank(WORLD), gives(0)),
-        (1, Ask::Rank(WORLD), gives(1)),
-        (1, Ask::Size(WORLD), gives(2)),
-        (1, Ask::Size(Word::Comm(0)), fault(Fault::BadComm)),
-        (1, Ask::Rank(Word::Comm(2)), fault(Fault::BadComm)),
-        (1, Ask::Rank(Word::Null), fault(Fault::BadComm)),
-        (0, Ask::Print(b"ab"), gives(2)),
-        (1, Ask::Print(b"\n"), gives(1)),
-        (0, Ask::Finish(0), fault(Fault::NoFinalize)),
-        (0, Ask::Finalize, DONE),
-        (0, Ask::Size(WORLD), fault(Fault::NotInit)),
-        (0, Ask::Init, fault(Fault::InitTwice)),
-        (0, Ask::Broke(Fault::Divide), fault(Fault::Divide)),
-        (0, Ask::Finish(-3), gives(-3)),
-        (1, Ask::Abort(Word::Comm(9), 4), fault(Fault::BadComm)),
-        (1, Ask::Abort(WORLD, 4), gives(4)),
-    ];
     let alloc = rt.alloc();
     let setup = valid_setup(alloc, 100)?;
     let mut state = State::new(alloc, &setup)?;
-    steps(&rt, alloc, &setup, &mut state, &rows)?;
+    steps(&rt, alloc, &setup, &mut state, &CALLS)?;
     let aborted = Last::Aborted {
         task: 1,
         code: 4,
@@ -201,46 +203,133 @@ fn calls_of_two_tasks_come_to_what_they_should(rt: HostRuntime) -> Result<(), Fa
     Ok(())
 }
 
-// A pointer to a place of the object that the task made as its k-th.
-const fn own(k: u32, at: u32) -> Word {
-    Word::Ptr {
-        obj: Obj::Dyn(k),
-        at,
-    }
-}
-
-const fn word(word: Word) -> Out {
-    Out::Did(Answer::Gives(word))
-}
+// Accesses of two tasks, each to its own memory.
+const ACCESSES: [Row; 20] = [
+    (
+        0,
+        Ask::New(2),
+        Out::Did(Answer::Gives(Word::Ptr {
+            obj: Obj::Dyn(1),
+            at: 0,
+        })),
+    ),
+    (
+        0,
+        Ask::Load(Word::Ptr {
+            obj: Obj::Dyn(1),
+            at: 0,
+        }),
+        Out::Broke(Fault::Uninit),
+    ),
+    (
+        0,
+        Ask::Store(
+            Word::Ptr {
+                obj: Obj::Dyn(1),
+                at: 1,
+            },
+            Word::Int(7),
+        ),
+        DONE,
+    ),
+    (
+        0,
+        Ask::Load(Word::Ptr {
+            obj: Obj::Dyn(1),
+            at: 1,
+        }),
+        Out::Did(Answer::Gives(Word::Int(7))),
+    ),
+    (
+        1,
+        Ask::Load(Word::Ptr {
+            obj: Obj::Dyn(1),
+            at: 1,
+        }),
+        Out::Broke(Fault::Dangling),
+    ),
+    (
+        0,
+        Ask::Store(
+            Word::Ptr {
+                obj: Obj::Dyn(1),
+                at: 2,
+            },
+            Word::Int(7),
+        ),
+        Out::Broke(Fault::Bounds),
+    ),
+    (0, Ask::Load(Word::Null), Out::Broke(Fault::NullAccess)),
+    (1, Ask::Malloc(-1), Out::Did(Answer::Gives(Word::Null))),
+    (
+        1,
+        Ask::Malloc(65_536),
+        Out::Did(Answer::Gives(Word::Ptr {
+            obj: Obj::Dyn(1),
+            at: 0,
+        })),
+    ),
+    (1, Ask::Malloc(1), Out::Did(Answer::Gives(Word::Null))),
+    (1, Ask::New(1), Out::Broke(Fault::StackFull)),
+    (
+        0,
+        Ask::New(1),
+        Out::Did(Answer::Gives(Word::Ptr {
+            obj: Obj::Dyn(2),
+            at: 0,
+        })),
+    ),
+    (
+        0,
+        Ask::Free(Word::Ptr {
+            obj: Obj::Dyn(2),
+            at: 0,
+        }),
+        Out::Broke(Fault::Dangling),
+    ),
+    (
+        1,
+        Ask::Free(Word::Ptr {
+            obj: Obj::Dyn(1),
+            at: 1,
+        }),
+        Out::Broke(Fault::Dangling),
+    ),
+    (
+        1,
+        Ask::Free(Word::Ptr {
+            obj: Obj::Dyn(1),
+            at: 0,
+        }),
+        DONE,
+    ),
+    (1, Ask::Free(Word::Null), DONE),
+    (
+        1,
+        Ask::New(1),
+        Out::Did(Answer::Gives(Word::Ptr {
+            obj: Obj::Dyn(2),
+            at: 0,
+        })),
+    ),
+    (0, Ask::Drop(Obj::Dyn(1)), DONE),
+    (
+        0,
+        Ask::Load(Word::Ptr {
+            obj: Obj::Dyn(1),
+            at: 1,
+        }),
+        Out::Broke(Fault::Dangling),
+    ),
+    (0, Ask::Drop(Obj::Dyn(1)), Out::Broke(Fault::Dangling)),
+];
 
 #[test]
 fn memories_of_two_tasks_are_apart(rt: HostRuntime) -> Result<(), Fail> {
-    let rows = [
-        (0, Ask::New(2), word(own(1, 0))),
-        (0, Ask::Load(own(1, 0)), fault(Fault::Uninit)),
-        (0, Ask::Store(own(1, 1), Word::Int(7)), DONE),
-        (0, Ask::Load(own(1, 1)), gives(7)),
-        (1, Ask::Load(own(1, 1)), fault(Fault::Dangling)),
-        (0, Ask::Store(own(1, 2), Word::Int(7)), fault(Fault::Bounds)),
-        (0, Ask::Load(Word::Null), fault(Fault::NullAccess)),
-        (1, Ask::Malloc(-1), word(Word::Null)),
-        (1, Ask::Malloc(65_536), word(own(1, 0))),
-        (1, Ask::Malloc(1), word(Word::Null)),
-        (1, Ask::New(1), fault(Fault::StackFull)),
-        (0, Ask::New(1), word(own(2, 0))),
-        (0, Ask::Free(own(2, 0)), fault(Fault::Dangling)),
-        (1, Ask::Free(own(1, 1)), fault(Fault::Dangling)),
-        (1, Ask::Free(own(1, 0)), DONE),
-        (1, Ask::Free(Word::Null), DONE),
-        (1, Ask::New(1), word(own(2, 0))),
-        (0, Ask::Drop(Obj::Dyn(1)), DONE),
-        (0, Ask::Load(own(1, 1)), fault(Fault::Dangling)),
-        (0, Ask::Drop(Obj::Dyn(1)), fault(Fault::Dangling)),
-    ];
     let alloc = rt.alloc();
     let setup = valid_setup(alloc, 100)?;
     let mut state = State::new(alloc, &setup)?;
-    steps(&rt, alloc, &setup, &mut state, &rows)?;
+    steps(&rt, alloc, &setup, &mut state, &ACCESSES)?;
     Ok(())
 }
 
